@@ -1,0 +1,3 @@
+test:
+	rt fmt --check
+	rt ci

@@ -1,0 +1,7 @@
+-- The laws about name fields and about the list functions of specs/, for this floor and those above.
+pub mod Tests
+pub mod Lists
+pub mod Scans
+pub mod Orders
+pub mod Runs
+pub mod Names

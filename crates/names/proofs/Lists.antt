@@ -1,0 +1,172 @@
+-- The laws of the list functions: what is in a list that they make, and what their answers say. Assumes nothing.
+use mathlib.Core.Path.{_≡_, refl, sym, ap, _∙_}
+use mathlib.Core.Logic.{_⊎_, inl, inr, ⊎-elim}
+use mathlib.Core.Bool.{Bool, true, false, _&&_, false≢true, true≢false}
+use mathlib.Core.Option.{Option, none, some}
+use mathlib.Core.List.{List, [], _∷_, _++_, map}
+use Prim.Native.Nat.{ℕ, zero, suc, _+_, _≤_, _<_}
+use native.Mathlib.Omega.{arith}
+use native.Mathlib.Numerals.{add-one}
+use lib.ListN.{length, take, drop, getD}
+use lib.Seq.{drop-cons}
+use lib.Dec.{eqb}
+use borrow.Author.Tests.{eq-eqb, eqb-true}
+use Rattle.names.specs.Lists.{In, keep, keepWhile, any, every, first, lastOr, joined, isSome, same, begins}
+use Rattle.names.proofs.Tests.{by-cases, not-both, and-left, and-right, not-none, the-some}
+
+module _ {A : Type 0} where
+  -- what is kept is in the list and passes the test
+  pub in-keep : (t : A → Bool) (xs : List A) (a : A) → In a (keep t xs) → In a xs × (t a ≡ true)
+  in-keep t (x ∷ xs) a m =
+      by-cases (t x)
+      (λ e. ⊎-elim (λ (p : a ≡ x). (inl p, ap t p ∙ e)) (λ (i : In a (keep t xs)). let r = in-keep t xs a i in (inr (r .0), r .1)) (rw (e, keep) at m))
+      (λ e. let r = in-keep t xs a (rw (e, keep) at m) in (inr (r .0), r .1))
+  in-keep t [] a m = absurd m
+
+  -- and what is in the list and passes the test is kept
+  pub keep-in : (t : A → Bool) (xs : List A) (a : A) → In a xs → t a ≡ true → In a (keep t xs)
+  keep-in t [] a m h = m
+  keep-in t (x ∷ xs) a (inl p) h = rw (sym (ap t p) ∙ h, keep) (inl p)
+  keep-in t (x ∷ xs) a (inr m) h =
+      by-cases (t x) (λ e. rw (e, keep) (inr (keep-in t xs a m h))) (λ e. rw (e, keep) (keep-in t xs a m h))
+
+  -- no first: the test fails throughout
+  pub none-first : (t : A → Bool) (xs : List A) (a : A) → first t xs ≡ none → In a xs → t a ≡ false
+  none-first t [] a e m = absurd m
+  none-first t (x ∷ xs) a e m =
+      by-cases (t x)
+      (λ h. not-none (sym (rw (h, first) at e)))
+      (λ h. ⊎-elim (λ (p : a ≡ x). ap t p ∙ h) (λ (i : In a xs). none-first t xs a (rw (h, first) at e) i) m)
+
+  -- the first is in the list and passes the test
+  pub some-first : (t : A → Bool) (xs : List A) (a : A) → first t xs ≡ some a → In a xs × (t a ≡ true)
+  some-first t [] a e = not-none e
+  some-first t (x ∷ xs) a e =
+      by-cases (t x)
+      (λ h. let p : x ≡ a = the-some (rw (h, first) at e) in (inl (sym p), sym (ap t p) ∙ h))
+      (λ h. let r = some-first t xs a (rw (h, first) at e) in (inr (r .0), r .1))
+
+  -- not any: the test fails throughout
+  pub not-any : (t : A → Bool) (xs : List A) (a : A) → any t xs ≡ false → In a xs → t a ≡ false
+  not-any t [] a e m = absurd m
+  not-any t (x ∷ xs) a e m =
+      by-cases (t x)
+      (λ h. absurd (true≢false (rw (h, any) at e)))
+      (λ h. ⊎-elim (λ (p : a ≡ x). ap t p ∙ h) (λ (i : In a xs). not-any t xs a (rw (h, any) at e) i) m)
+
+  -- one that passes the test is enough
+  pub any-in : (t : A → Bool) (xs : List A) (a : A) → In a xs → t a ≡ true → any t xs ≡ true
+  any-in t [] a m h = absurd m
+  any-in t (x ∷ xs) a (inl p) h = rw (sym (ap t p) ∙ h, any)
+  any-in t (x ∷ xs) a (inr m) h = by-cases (t x) (λ e. rw (e, any)) (λ e. rw (e, any) (any-in t xs a m h))
+
+  -- any, by the first
+  pub any-first : (t : A → Bool) (xs : List A) → any t xs ≡ isSome (first t xs)
+  any-first t [] = refl
+  any-first t (x ∷ xs) = by-cases (t x) (λ e. rw (e, any, first)) (λ e. rw (e, any, first) (any-first t xs))
+
+  -- every, from its first on
+  pub every-on : (t : A → Bool) (x : A) (xs : List A) → t x ≡ true → every t (x ∷ xs) ≡ every t xs
+  every-on t x xs e = rw (e, every)
+
+  pub every-off : (t : A → Bool) (x : A) (xs : List A) → t x ≡ false → every t (x ∷ xs) ≡ false
+  every-off t x xs e = rw (e, every)
+
+  -- those before the first that fails, from the first on
+  pub while-on : (t : A → Bool) (x : A) (xs : List A) → t x ≡ true → keepWhile t (x ∷ xs) ≡ x ∷ keepWhile t xs
+  while-on t x xs e = rw (e, keepWhile)
+
+  pub while-off : (t : A → Bool) (x : A) (xs : List A) → t x ≡ false → keepWhile t (x ∷ xs) ≡ []
+  while-off t x xs e = rw (e, keepWhile)
+
+  -- and they are no more than all
+  pub while-length : (t : A → Bool) (xs : List A) → length (keepWhile t xs) ≤ length xs
+  while-length t [] = omega arith
+  while-length t (x ∷ xs) =
+      by-cases (t x)
+      (λ e. rw (while-on t x xs e) (let h = while-length t xs in omega arith))
+      (λ e. rw (while-off t x xs e) (omega arith))
+
+  -- the last of a list, if it has one, is in it
+  pub last-in : (d : A) (xs : List A) → In (lastOr d xs) (d ∷ xs)
+  last-in d [] = inl refl
+  last-in d (x ∷ xs) = inr (last-in x xs)
+
+  pub in-append : (xs ys : List A) (a : A) → In a (xs ++ ys) → In a xs ⊎ In a ys
+  in-append [] ys a m = inr m
+  in-append (x ∷ xs) ys a (inl p) = inl (inl p)
+  in-append (x ∷ xs) ys a (inr m) = ⊎-elim (λ (i : In a xs). inl (inr i)) (λ (i : In a ys). inr i) (in-append xs ys a m)
+
+  pub append-left : (xs ys : List A) (a : A) → In a xs → In a (xs ++ ys)
+  append-left [] ys a m = absurd m
+  append-left (x ∷ xs) ys a (inl p) = inl p
+  append-left (x ∷ xs) ys a (inr m) = inr (append-left xs ys a m)
+
+  pub append-right : (xs ys : List A) (a : A) → In a ys → In a (xs ++ ys)
+  append-right [] ys a m = m
+  append-right (x ∷ xs) ys a m = inr (append-right xs ys a m)
+
+  -- what is in one of the lists is in the lists joined
+  pub joined-in : (ls : List (List A)) (l : List A) (a : A) → In l ls → In a l → In a (joined ls)
+  joined-in [] l a m i = absurd m
+  joined-in (k ∷ ls) l a (inl p) i = append-left k (joined ls) a (rw p at i)
+  joined-in (k ∷ ls) l a (inr m) i = append-right k (joined ls) a (joined-in ls l a m i)
+
+  -- what is in the lists joined is in one of them
+  pub in-joined : (ls : List (List A)) (a : A) → In a (joined ls) → (l : List A) × In l ls × In a l
+  in-joined [] a m = absurd m
+  in-joined (l ∷ ls) a m =
+      ⊎-elim (λ (i : In a l). (l, inl refl, i))
+      (λ (i : In a (joined ls)). let r = in-joined ls a i in (r .0, inr (r .1), r .2))
+      (in-append l (joined ls) a m)
+
+module _ {A B : Type 0} where
+  -- what is in a list's image is the image of what is in the list
+  pub in-map : (f : A → B) (xs : List A) (b : B) → In b (map f xs) → (a : A) × In a xs × (b ≡ f a)
+  in-map f [] b m = absurd m
+  in-map f (x ∷ xs) b (inl p) = (x, inl refl, p)
+  in-map f (x ∷ xs) b (inr m) = let r = in-map f xs b m in (r .0, inr (r .1), r .2)
+
+  pub map-in : (f : A → B) (xs : List A) (a : A) → In a xs → In (f a) (map f xs)
+  map-in f [] a m = absurd m
+  map-in f (x ∷ xs) a (inl p) = inl (ap f p)
+  map-in f (x ∷ xs) a (inr m) = inr (map-in f xs a m)
+
+-- ---- lists of numbers
+-- a list from a place on: what stands there, and the rest
+pub at-cons : (f : List ℕ) (i : ℕ) → i < length f → drop i f ≡ getD f i 0 ∷ drop (i + 1) f
+at-cons f i h = rw (add-one, drop-cons f i 0 h)
+
+pub take-while : (t : ℕ → Bool) (xs : List ℕ) → take (length (keepWhile t xs)) xs ≡ keepWhile t xs
+take-while t [] = refl
+take-while t (x ∷ xs) =
+    by-cases (t x)
+    (λ e. rw (while-on t x xs e) (ap (λ (l : List ℕ). x ∷ l) (take-while t xs)))
+    (λ e. rw (while-off t x xs e))
+
+-- ---- the same list, by the test
+pub same-refl : (xs : List ℕ) → same xs xs ≡ true
+same-refl [] = refl
+same-refl (x ∷ xs) = rw (eq-eqb x x refl) (same-refl xs)
+
+pub eq-same : {xs ys : List ℕ} → xs ≡ ys → same xs ys ≡ true
+eq-same {xs} {ys} e = rw e (same-refl ys)
+
+pub same-true : (xs ys : List ℕ) → same xs ys ≡ true → xs ≡ ys
+same-true [] [] e = refl
+same-true [] (y ∷ ys) e = absurd (false≢true e)
+same-true (x ∷ xs) [] e = absurd (false≢true e)
+same-true (x ∷ xs) (y ∷ ys) e =
+    let p : x ≡ y = eqb-true x y (and-left (eqb x y) (same xs ys) e) in
+    let q : xs ≡ ys = same-true xs ys (and-right (eqb x y) (same xs ys) e) in
+    cc
+
+pub same-false : {xs ys : List ℕ} → (xs ≡ ys → ⊥) → same xs ys ≡ false
+same-false {xs} {ys} n = by-cases (same xs ys) (λ e. absurd (n (same-true xs ys e))) (λ e. e)
+
+pub same-eq : {x y u v : List ℕ} → x ≡ u → y ≡ v → same x y ≡ same u v
+same-eq {x} {y} {u} {v} p q = rw (p, q)
+
+pub begins-append : (xs ys : List ℕ) → begins xs (xs ++ ys) ≡ true
+begins-append [] ys = refl
+begins-append (x ∷ xs) ys = rw (eq-eqb x x refl) (begins-append xs ys)
