@@ -2,6 +2,7 @@
 pub mod Tests
 pub mod Lists
 pub mod Scans
+pub mod Tables
 pub mod Orders
 pub mod Runs
 pub mod Names

@@ -1,7 +1,8 @@
--- What a scan of the numbers below n gives, and the code's answer for it. Assumes nothing.
+-- The numbers below n: what a scan of them gives, with the code's answer for it, and a table of what each has. Assumes nothing.
 use Prim.Native.Nat.{ℕ, zero, suc}
 use mathlib.Core.Bool.{Bool, cond}
 use mathlib.Core.Option.{Option, none, some}
+use mathlib.Core.List.{List, [], _∷_}
 use Rattle.names.specs.declared.Found.{Found}
 use Rattle.names.specs.declared.Found.the-variants.{At, Nothing}
 
@@ -18,3 +19,12 @@ scan t n = firstFrom t 0 n
 unfoldable pub foundOf : Option ℕ → Found
 foundOf none = Nothing
 foundOf (some p) = At p
+
+-- what f gives for the n numbers from p on, in order
+unfoldable pub tableFrom : (ℕ → ℕ) → ℕ → ℕ → List ℕ
+tableFrom f p zero = []
+tableFrom f p (suc n) = f p ∷ tableFrom f (suc p) n
+
+-- a table of n places: what f gives for each number below n
+unfoldable pub table : (ℕ → ℕ) → ℕ → List ℕ
+table f n = tableFrom f 0 n
