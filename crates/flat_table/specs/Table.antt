@@ -80,25 +80,23 @@ module _ (fieldWidth rowLength : ℕ) where
   unfoldable pub fault₁₆ : Table → Option ℕ
   fault₁₆ t = first (isRepeatedRow t) (rows t)
 
+  -- row 17: a parent or reference field f, where a blank is allowed or not, and a filled one names a record that passes the test
+  unfoldable pub isLinkFault : Table → List ℕ → Bool → (ℕ → Bool) → Bool
+  isLinkFault t f blankAllowed isLink = cond (isBlank f) (not blankAllowed) (not (holds isLink (rowNamed t f)))
+
   -- row 17: "parent against the class table or not an earlier record"
   unfoldable pub isParentRow : Table → ℕ → ℕ → Bool
   isParentRow t p q = ltb q p && parentAllowed (rowKind t p) (some (rowKind t q))
 
   unfoldable pub isParentFault : Table → ℕ → Bool
-  isParentFault t p =
-      cond (isBlank (rowParent t p))
-      (not (parentAllowed (rowKind t p) none))
-      (not (holds (isParentRow t p) (rowNamed t (rowParent t p))))
+  isParentFault t p = isLinkFault t (rowParent t p) (parentAllowed (rowKind t p) none) (isParentRow t p)
 
   -- row 17: "reference against the class table or not a record"
   unfoldable pub isReferenceRow : Table → ℕ → ℕ → Bool
   isReferenceRow t p q = referenceAllowed (rowKind t p) (some (rowKind t q))
 
   unfoldable pub isReferenceFault : Table → ℕ → Bool
-  isReferenceFault t p =
-      cond (isBlank (rowReference t p))
-      (not (referenceAllowed (rowKind t p) none))
-      (not (holds (isReferenceRow t p) (rowNamed t (rowReference t p))))
+  isReferenceFault t p = isLinkFault t (rowReference t p) (referenceAllowed (rowKind t p) none) (isReferenceRow t p)
 
   unfoldable pub isRowFault : Table → ℕ → Bool
   isRowFault t p = isParentFault t p || isReferenceFault t p

@@ -12,7 +12,7 @@ use Rattle.names.specs.Scans.{scan}
 use Rattle.names.specs.Order.{before}
 use Rattle.name_index.specs.declared.Layout.{Layout}
 use Rattle.name_index.specs.Hash.{fourAt, mixed, mixedFrom, hashOf}
-use Rattle.name_index.specs.Index.{nameOf, keyedName, insert, ordered, isRepeat}
+use Rattle.name_index.specs.Index.{nameOf, keyedName, Hashed, insert, ordered, isRepeat}
 use Rattle.names.proofs.Tests.{by-cases}
 use Rattle.names.proofs.Lists.{same-true, same-false, eq-same}
 use Rattle.names.proofs.Scans.{scan-same}
@@ -75,10 +75,6 @@ same-keyed {k} {m} xs ys f =
     by-cases (same xs ys)
     (λ e. sym (same-name xs ys (f (same-true xs ys e))))
     (λ e. by-cases (eqb k m) (λ h. rw h) (λ h. rw (h, e)))
-
--- each key is the number of its name
-abbrev pub Hashed : List ℕ → (ℕ → List ℕ) → ℕ → Type 0
-Hashed keys name n = (p : ℕ) → p < n → getD keys p 0 ≡ hashOf (name p)
 
 module _ (keys s : List ℕ) (l : Layout) (n : ℕ) (h : Hashed keys (nameOf s l) n) where
   -- a look-up by number and name is a look-up by name

@@ -9,6 +9,7 @@ use Rattle.names.specs.Lists.{isSome, same}
 use Rattle.names.specs.Scans.{scan}
 use Rattle.names.specs.Order.{before}
 use Rattle.name_index.specs.declared.Layout.{Layout}
+use Rattle.name_index.specs.Hash.{hashOf}
 
 -- the name of the record at position p
 unfoldable pub nameOf : List ℕ → Layout → ℕ → List ℕ
@@ -52,3 +53,7 @@ pub record Indexes (keys s : List ℕ) (l : Layout) (n : ℕ) (index : List ℕ)
   pub keyed : Keyed keys s l n
   pub enough : n ≤ length index
   pub order : take n index ≡ ordered (keyedName keys s l) 0 n
+
+-- each key is the number of its record's name
+abbrev pub Hashed : List ℕ → (ℕ → List ℕ) → ℕ → Type 0
+Hashed keys name n = (p : ℕ) → p < n → getD keys p 0 ≡ hashOf (name p)

@@ -1,5 +1,5 @@
 -- How a field reads, by the run of bytes that may stand in a name and the bytes behind it. Assumes nothing.
-use mathlib.Core.Path.{_≡_, refl, sym, ap, _∙_}
+use mathlib.Core.Path.{_≡_, refl, sym, ap, _∙_, subst}
 use mathlib.Core.Bool.{Bool, true, false, cond, not, _&&_, _||_, false≢true}
 use mathlib.Core.List.{List, [], _∷_}
 use Prim.Native.Nat.{ℕ, zero, suc, _+_, _-_, _<_, _≤_}
@@ -15,6 +15,9 @@ use Rattle.names.specs.declared.Field.{Field}
 use Rattle.names.specs.declared.Field.the-variants.{Name, Blank, Neither}
 use Rattle.names.specs.declared.Optional.{Optional}
 use Rattle.names.specs.declared.Optional.the-variants.{Holds, Refused}
+use types.Run.{OneOf, miss}
+use denote.Enum.Declared.{tagOf}
+use Rattle.names.proofs.Field.{the-type}
 use Rattle.names.specs.Runs.{Run}
 use Rattle.names.proofs.Tests.{by-cases, not-both}
 use Rattle.names.proofs.Lists.{at-cons, every-on, every-off, while-on, while-off, take-while}
@@ -216,6 +219,35 @@ optional-refused f e =
     (λ h. let k : Neither ≡ Name (length (text f)) = rw h at e in let z : _≡_ {A = ℕ} 0 1 = cc in absurd (omega arith))
     (λ h. by-cases (isBlank f) (λ b. let k : Neither ≡ Blank = rw (h, b) at e in let z : _≡_ {A = ℕ} 0 1 = cc in absurd (omega arith))
     (λ b. rw (h, b)))
+
+-- ---- what a reader's answer says of the field
+pub is-name : (f : List ℕ) {n : ℕ} → Name n ≡ fieldOf f → isName f ≡ true
+unfolding fieldOf
+is-name f {n} e =
+    by-cases (isName f) (λ h. h)
+    (λ h. by-cases (isBlank f) (λ b. let k : Name n ≡ Blank = rw (h, b) at e in let z : _≡_ {A = ℕ} 0 1 = cc in absurd (omega arith))
+    (λ b. let k : Name n ≡ Neither = rw (h, b) at e in let z : _≡_ {A = ℕ} 0 1 = cc in absurd (omega arith)))
+
+-- the reader answered one of the two other cases
+pub is-no-name : (f : List ℕ) {r : Field} → r ≡ fieldOf f → OneOf (1 ∷ 2 ∷ []) (tagOf the-type r) → isName f ≡ false
+unfolding fieldOf
+is-no-name f {r} e k =
+    by-cases (isName f)
+    (λ h. let q : r ≡ Name (length (text f)) = e ∙ rw h in absurd (miss (1 ∷ 2 ∷ []) 0 tt (subst (λ (x : Field). OneOf (1 ∷ 2 ∷ []) (tagOf the-type x)) q k)))
+    (λ h. h)
+
+pub is-optional : (f : List ℕ) {n : ℕ} → Holds n ≡ optionalOf f → isNameOrBlank f ≡ true
+unfolding optionalOf
+is-optional f {n} e =
+    by-cases (isNameOrBlank f) (λ h. h)
+    (λ h. let k : Holds n ≡ Refused = rw h at e in let z : _≡_ {A = ℕ} 0 1 = cc in absurd (omega arith))
+
+pub is-not-optional : (f : List ℕ) → Refused ≡ optionalOf f → isNameOrBlank f ≡ false
+unfolding optionalOf
+is-not-optional f e =
+    by-cases (isNameOrBlank f)
+    (λ h. let k : Refused ≡ Holds (length (text f)) = rw h at e in let z : _≡_ {A = ℕ} 0 1 = cc in absurd (omega arith))
+    (λ h. h)
 
 -- the part of a slice between two offsets, as the field there
 pub field-is : (w : ℕ) (t : List ℕ) (at : ℕ) → take (at + w - at) (drop at t) ≡ fieldAt w t at
