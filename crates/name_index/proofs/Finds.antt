@@ -1,15 +1,12 @@
 -- A name's place in an index, what stands there, and the first repeat. Assumes nothing.
-use mathlib.Core.Path.{_≡_, refl, sym, ap, _∙_, subst}
-use mathlib.Core.Logic.{_⊎_, inl, inr, ⊎-elim}
-use mathlib.Core.Bool.{Bool, true, false}
-use mathlib.Core.Option.{Option, none, some}
-use mathlib.Core.List.{List, [], _∷_}
+use mathlib.Core.Path.{_≡_, sym, ap, _∙_}
+use mathlib.Core.Bool.{true, false}
+use mathlib.Core.Option.{none, some}
+use mathlib.Core.List.{List}
 use Prim.Native.Nat.{ℕ, _+_, _-_, _<_, _≤_}
 use native.Mathlib.Omega.{arith}
 use lib.ListN.{getD}
-use lib.Dec.{ltb, eqb}
-use borrow.Author.Tests.{ltb-true, ltb-false, eqb-true, eqb-false}
-use Rattle.names.specs.Lists.{same, isSome}
+use Rattle.names.specs.Lists.{same}
 use Rattle.names.specs.Scans.{scan}
 use Rattle.names.specs.Order.{before}
 use Rattle.name_index.specs.declared.Layout.{Layout}
@@ -19,7 +16,7 @@ use Rattle.names.proofs.Tests.{by-cases, not-both, three}
 use Rattle.names.proofs.Lists.{same-true, same-false, eq-same}
 use Rattle.names.proofs.Scans.{scan-at, scan-none, scan-some, some-scan}
 use Rattle.names.proofs.Orders.{le-trans, le-lt, antisym, irreflexive}
-use Rattle.name_index.proofs.Sorted.{Ranked, ranked, Stands}
+use Rattle.name_index.proofs.Sorted.{Ranked, ranked}
 
 module _ (name : ℕ → List ℕ) (xs : List ℕ) (n : ℕ) where
   -- ---- halving: all before lo come before f, none from hi on

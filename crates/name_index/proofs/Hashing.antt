@@ -1,8 +1,8 @@
 -- How the number of a name is computed, and that such keys, or none, change no answer. Assumes nothing.
 use mathlib.Core.Path.{_≡_, refl, sym, ap, _∙_}
-use mathlib.Core.Bool.{Bool, true, false, cond, _&&_}
+use mathlib.Core.Bool.{false}
 use mathlib.Core.List.{List, [], _∷_}
-use Prim.Native.Nat.{ℕ, zero, suc, _+_, _-_, _*_, _/_, _%_, _<_, _≤_}
+use Prim.Native.Nat.{ℕ, zero, suc, _+_, _-_, _/_, _%_, _<_, _≤_}
 use native.Mathlib.Omega.{arith}
 use lib.ListN.{length, getD}
 use lib.Dec.{eqb, ltb}
@@ -14,7 +14,7 @@ use Rattle.name_index.specs.declared.Layout.{Layout}
 use Rattle.name_index.specs.Hash.{fourAt, mixed, mixedFrom, hashOf}
 use Rattle.name_index.specs.Index.{nameOf, keyedName, Hashed, insert, ordered, isRepeat}
 use Rattle.names.proofs.Tests.{by-cases}
-use Rattle.names.proofs.Lists.{same-true, same-false, eq-same}
+use Rattle.names.proofs.Lists.{same-true}
 use Rattle.names.proofs.Scans.{scan-same}
 
 -- ---- the loop over the eights of a name: what is left to mix, from i on

@@ -1,25 +1,21 @@
 -- One law for each way through the functions' code. Assumes nothing.
-use mathlib.Core.Path.{_≡_, refl, sym, ap, _∙_, subst}
-use mathlib.Core.Logic.{_⊎_, inl, inr, ⊎-elim}
-use mathlib.Core.Bool.{Bool, true, false, cond, false≢true, true≢false}
-use mathlib.Core.Option.{Option, none, some}
-use mathlib.Core.List.{List, [], _∷_, _++_, append-nil, append-assoc}
+use mathlib.Core.Path.{_≡_, refl, sym, ap, _∙_}
+use mathlib.Core.Bool.{true, false}
+use mathlib.Core.List.{List, [], _∷_, _++_, append-nil}
 use Prim.Native.Nat.{ℕ, zero, suc, _+_, _-_, _*_, _<_, _≤_}
 use native.Mathlib.Omega.{arith}
 use native.Mathlib.Numerals.{add-one}
-use native.Mathlib.Nat.{add-sub-cancel-left, mul-le-mul-right, add-suc, add-zero}
+use native.Mathlib.Nat.{add-sub-cancel-left, mul-le-mul-right, add-zero}
 use lib.ListN.{length, getD, take, drop, set, length-set, length-take, length-drop, length-append, drop-of-length-le}
-use lib.Seq.{drop-cons, take-suc-set, take-suc, append-snoc, sets, sets-eq, getD-take, getD-drop, take-all, length-take-le, take-at, drop-at}
+use lib.Seq.{drop-cons, take-suc-set, append-snoc, sets, sets-eq, getD-take, getD-drop, take-all, length-take-le, take-at, drop-at}
 use lib.Dec.{ltb}
-use borrow.Author.Tests.{ltb-true, ltb-false, le-leb, lt-leb}
+use borrow.Author.Tests.{ltb-true, ltb-false}
 use Rattle.name_index.specs.declared.Layout.{Layout}
-use Rattle.names.specs.Lists.{same}
 use Rattle.names.specs.Order.{before}
-use Rattle.name_index.specs.Index.{nameOf, keyedName, Whole, Keyed, Below, insert, ordered}
+use Rattle.name_index.specs.Index.{nameOf, Whole, Keyed, Below, insert, ordered}
 use Rattle.name_index.specs.Steps.{between, merged, nextRight}
 use borrow.Rule.Slice.PartMut.{putMid}
 use Rattle.names.proofs.Tests.{by-cases, not-both}
-use Rattle.names.proofs.Lists.{at-cons}
 use Rattle.name_index.proofs.Sorted.{ordered-length, ordered-below, ordered-merged, ordered-joined}
 
 -- ---- a name's place: the one product of two variables, and the law that bounds it

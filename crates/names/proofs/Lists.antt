@@ -1,10 +1,10 @@
 -- The laws of the list functions: what is in a list that they make, and what their answers say. Assumes nothing.
 use mathlib.Core.Path.{_≡_, refl, sym, ap, _∙_}
 use mathlib.Core.Logic.{_⊎_, inl, inr, ⊎-elim}
-use mathlib.Core.Bool.{Bool, true, false, _&&_, false≢true, true≢false}
-use mathlib.Core.Option.{Option, none, some}
+use mathlib.Core.Bool.{Bool, true, false, false≢true, true≢false}
+use mathlib.Core.Option.{none, some}
 use mathlib.Core.List.{List, [], _∷_, _++_, map}
-use Prim.Native.Nat.{ℕ, zero, suc, _+_, _≤_, _<_}
+use Prim.Native.Nat.{ℕ, _+_, _≤_, _<_}
 use native.Mathlib.Omega.{arith}
 use native.Mathlib.Numerals.{add-one}
 use lib.ListN.{length, take, drop, getD}
@@ -12,7 +12,7 @@ use lib.Seq.{drop-cons}
 use lib.Dec.{eqb}
 use borrow.Author.Tests.{eq-eqb, eqb-true}
 use Rattle.names.specs.Lists.{In, keep, keepWhile, any, every, first, lastOr, joined, isSome, same, begins}
-use Rattle.names.proofs.Tests.{by-cases, not-both, and-left, and-right, not-none, the-some}
+use Rattle.names.proofs.Tests.{by-cases, and-left, and-right, not-none, the-some}
 
 module _ {A : Type 0} where
   -- what is kept is in the list and passes the test

@@ -1,8 +1,8 @@
 -- How a field reads, by the run of bytes that may stand in a name and the bytes behind it. Assumes nothing.
 use mathlib.Core.Path.{_≡_, refl, sym, ap, _∙_, subst}
-use mathlib.Core.Bool.{Bool, true, false, cond, not, _&&_, _||_, false≢true}
+use mathlib.Core.Bool.{Bool, true, false, not, _&&_, false≢true}
 use mathlib.Core.List.{List, [], _∷_}
-use Prim.Native.Nat.{ℕ, zero, suc, _+_, _-_, _<_, _≤_}
+use Prim.Native.Nat.{ℕ, suc, _+_, _-_, _<_, _≤_}
 use native.Mathlib.Omega.{arith}
 use native.Mathlib.Nat.{add-sub-cancel-left}
 use lib.ListN.{length, getD, take, drop, drop-of-length-le, length-drop}
@@ -13,7 +13,6 @@ use Rattle.names.specs.Lists.{every, keepWhile, same}
 use Rattle.names.specs.Names.{isLetter, isDigit, underscore, isFirst, isOther, nonZero, areNameCharacters, text, isBlank, isName, isNameOrBlank, fieldOf, optionalOf, fieldAt}
 use Rattle.names.specs.declared.Field.{Field}
 use Rattle.names.specs.declared.Field.the-variants.{Name, Blank, Neither}
-use Rattle.names.specs.declared.Optional.{Optional}
 use Rattle.names.specs.declared.Optional.the-variants.{Holds, Refused}
 use types.Run.{OneOf, miss}
 use denote.Enum.Declared.{tagOf}

@@ -1,3 +1,5 @@
+-- `flat_table::find_row` meets its contract: a look-up by hash and name is a look-up by name.
+-- Assumes nothing.
 use Prim.Native.Nat.{ℕ}
 use mathlib.Core.Path.{ap, _∙_}
 use mathlib.Core.List.{_∷_}

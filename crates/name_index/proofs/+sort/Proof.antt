@@ -1,3 +1,5 @@
+-- `name_index::sort` meets its contract: the measure is the length; two sorted halves are merged, or in order as they stand.
+-- Assumes nothing.
 use denote.Ref.{now}
 use Rattle.name_index.proofs.runs_overlap.Reads as runs-overlap-reads
 use Rattle.name_index.proofs.merge_back.Reads as merge-back-reads

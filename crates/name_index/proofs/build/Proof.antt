@@ -1,3 +1,5 @@
+-- `name_index::build` meets its contract: from what `sort` ensures of the first n places.
+-- Assumes nothing.
 use Prim.Native.Nat.{ℕ}
 use mathlib.Core.Path.{sym, ap, _∙_}
 use mathlib.Core.List.{List, _++_}

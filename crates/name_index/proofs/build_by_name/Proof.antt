@@ -1,3 +1,5 @@
+-- `name_index::build_by_name` meets its contract: keys that are all 0 change no order.
+-- Assumes nothing.
 use Prim.Native.Nat.{ℕ}
 use mathlib.Core.Path.{ap, _∙_}
 use mathlib.Core.List.{List, _++_}

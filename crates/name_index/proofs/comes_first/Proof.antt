@@ -1,3 +1,5 @@
+-- `name_index::comes_first` meets its contract: the key decides, or else the name.
+-- Assumes nothing.
 use mathlib.Core.Path.{refl, _∙_}
 use native.Mathlib.Omega.{arith}
 use Rattle.names.proofs.Orders.{before-eq}

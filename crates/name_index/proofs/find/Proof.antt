@@ -1,3 +1,5 @@
+-- `name_index::find` meets its contract: from what stands at the place of the name.
+-- Assumes nothing.
 use mathlib.Core.Path.{sym, _∙_}
 use native.Mathlib.Omega.{arith}
 use Rattle.names.proofs.Scans.{at-found, nothing-found}

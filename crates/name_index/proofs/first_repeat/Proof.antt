@@ -1,7 +1,8 @@
+-- `name_index::first_repeat` meets its contract: the invariant: `best` is the least of the repeats among the first k places, or n.
+-- Assumes nothing.
 use Prim.Native.Nat.{_-_, _<_}
 use mathlib.Core.Path.{sym, _∙_}
 use native.Mathlib.Omega.{arith}
-use borrow.Author.Needs.{needs}
 use Rattle.names.proofs.Scans.{at-found, nothing-found}
 use Rattle.name_index.specs.Index.{keyedName}
 use Rattle.name_index.proofs.Finds.{ranks, Seen, seen-start, seen-new, seen-other, seen-pass, seen-at, seen-none}

@@ -1,3 +1,5 @@
+-- `name_index::four` meets its contract: each byte is below 256.
+-- Assumes nothing.
 use mathlib.Core.Path.{refl}
 use native.Mathlib.Omega.{arith}
 use Prim.Native.Nat.{_+_}

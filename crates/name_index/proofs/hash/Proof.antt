@@ -1,3 +1,5 @@
+-- `name_index::hash` meets its contract: by the length of the name.
+-- Assumes nothing.
 use native.Mathlib.Omega.{arith}
 use Rattle.name_index.proofs.Hashing.{hash-short, hash-long}
 use borrow.Author.Needs.{needs}

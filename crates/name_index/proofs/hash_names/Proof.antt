@@ -1,3 +1,5 @@
+-- `name_index::hash_names` meets its contract: the invariant: the first i places are filled, the others as they were.
+-- Assumes nothing.
 use Prim.Native.Nat.{_-_, _≤_}
 use mathlib.Core.Path.{ap, _∙_}
 use native.Mathlib.Omega.{arith}

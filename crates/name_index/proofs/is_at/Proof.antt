@@ -1,3 +1,5 @@
+-- `name_index::is_at` meets its contract: the key decides, or else the name.
+-- Assumes nothing.
 use Rattle.name_index.specs.Index.{nameOf}
 use mathlib.Core.Path.{refl, _∙_}
 use native.Mathlib.Omega.{arith}

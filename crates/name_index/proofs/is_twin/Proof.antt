@@ -1,3 +1,5 @@
+-- `name_index::is_twin` meets its contract: from what `is_at` ensures.
+-- Assumes nothing.
 use lib.ListN.{getD}
 use Rattle.name_index.specs.Index.{keyedName}
 use mathlib.Core.Path.{refl, ap, _∙_}

@@ -1,3 +1,5 @@
+-- `name_index::merge` meets its contract: the invariant: what is left to write, from place i + j on, is what is left of the two runs merged.
+-- Assumes nothing.
 use Prim.Native.Nat.{_+_, _-_, _≤_, _<_}
 use mathlib.Core.Path.{_≡_, refl, sym, _∙_}
 use mathlib.Core.Bool.{true, false}

@@ -1,3 +1,5 @@
+-- `name_index::merge_back` meets its contract: from what `merge_halves` and `copy` ensure.
+-- Assumes nothing.
 use mathlib.Core.Path.{sym, ap, _∙_}
 use lib.ListN.{length, drop}
 use lib.Seq.{length-take-le, take-at}

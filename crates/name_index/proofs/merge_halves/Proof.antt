@@ -1,3 +1,5 @@
+-- `name_index::merge_halves` meets its contract: from what `merge` ensures of the two parts.
+-- Assumes nothing.
 use mathlib.Core.Path.{sym, ap, _∙_}
 use lib.ListN.{take}
 use lib.Seq.{length-take-le}

@@ -1,7 +1,8 @@
+-- `name_index::mix` meets its contract: the factors are below 2^30, so that the sums fit.
+-- Assumes nothing.
 use mathlib.Core.Path.{refl}
 use native.Mathlib.Omega.{arith}
 use Rattle.name_index.specs.Hash.{mixed}
-use borrow.Author.Needs.{needs}
 use Rattle.name_index.proofs.mix.Statement.{statement}
 use Rattle.name_index.proofs.mix.Tie as tie
 

@@ -1,3 +1,5 @@
+-- `name_index::mix_eights` meets its contract: the invariant: what is left to mix from i on.
+-- Assumes nothing.
 use Prim.Native.Nat.{_-_}
 use mathlib.Core.Path.{_∙_}
 use native.Mathlib.Omega.{arith}

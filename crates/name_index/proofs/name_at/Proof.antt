@@ -1,8 +1,6 @@
+-- `name_index::name_at` meets its contract: the record lies within the bytes.
+-- Assumes nothing.
 use Rattle.name_index.proofs.Merging.{name-is}
-use mathlib.Core.Path.{_≡_, refl, sym, _∙_}
-use Prim.Native.Nat.{_≤_, _-_, _+_}
-use native.Mathlib.Omega.{arith}
-use lib.ListN.{length, drop, take, set, getD}
 use borrow.Author.Needs.{needs}
 use Rattle.name_index.proofs.name_at.Statement.{statement}
 use Rattle.name_index.proofs.name_at.Tie as tie

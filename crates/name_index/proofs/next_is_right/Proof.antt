@@ -1,3 +1,5 @@
+-- `name_index::next_is_right` meets its contract: by which of the runs has ended.
+-- Assumes nothing.
 use mathlib.Core.Path.{sym, _∙_}
 use native.Mathlib.Omega.{arith}
 use Rattle.name_index.proofs.Merging.{none-left, none-right, both-left}

@@ -1,3 +1,5 @@
+-- `name_index::place` meets its contract: the invariant: all before lo come before the name, none from hi on.
+-- Assumes nothing.
 use Prim.Native.Nat.{_+_, _-_, _/_}
 use mathlib.Core.Path.{sym, _∙_}
 use mathlib.Core.List.{_∷_}

@@ -1,3 +1,5 @@
+-- `name_index::precedes` meets its contract: from what `comes_first` ensures.
+-- Assumes nothing.
 use lib.ListN.{getD}
 use mathlib.Core.Path.{refl, ap, _∙_}
 use mathlib.Core.List.{List, _∷_}

@@ -1,3 +1,5 @@
+-- `name_index::runs_overlap` meets its contract: from what `precedes` ensures.
+-- Assumes nothing.
 use Prim.Native.Nat.{_-_}
 use native.Mathlib.Omega.{arith}
 use borrow.Author.Needs.{needs}

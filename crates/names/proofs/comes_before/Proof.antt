@@ -1,3 +1,5 @@
+-- `names::comes_before` meets its contract: the first byte behind the common start decides, or the shorter field.
+-- Assumes nothing.
 use Rattle.names.proofs.Runs.{run-shorter, run-longer, run-differ}
 use native.Mathlib.Omega.{arith}
 use borrow.Author.Needs.{needs}

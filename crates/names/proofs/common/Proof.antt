@@ -1,3 +1,5 @@
+-- `names::common` meets its contract: the invariant is that of `same_by_eight`, one byte at a time.
+-- Assumes nothing.
 use Rattle.names.proofs.Runs.{passed-one, run-stop, run-end}
 use Rattle.names.specs.Runs.{Passed, sameAt}
 use borrow.Author.Tests.{eq-eqb, ne-eqb}

@@ -1,3 +1,5 @@
+-- `names::eight_others` meets its contract: from what `is_other` ensures of each byte.
+-- Assumes nothing.
 use borrow.Author.Needs.{needs}
 use Rattle.names.proofs.eight_others.Statement.{statement}
 use Rattle.names.proofs.eight_others.Tie as tie

@@ -1,3 +1,5 @@
+-- `names::is_blank_from` meets its contract: zeros are a zero and bytes that are each the same as the one before.
+-- Assumes nothing.
 use Rattle.names.proofs.Names.{blank-end, blank-stop, blank-shifted}
 use mathlib.Core.Path.{sym, _∙_}
 use borrow.Author.Needs.{needs}

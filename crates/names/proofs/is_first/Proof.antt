@@ -1,3 +1,5 @@
+-- `names::is_first` meets its contract: by computing.
+-- Assumes nothing.
 use Rattle.names.specs.Names.{isFirst, isLetter, underscore}
 use mathlib.Core.Path.{refl}
 use Rattle.names.proofs.is_first.Statement.{statement}

@@ -1,3 +1,5 @@
+-- `names::is_other` meets its contract: from what `is_first` ensures.
+-- Assumes nothing.
 use Rattle.names.specs.Names.{isOther, isDigit}
 use borrow.Author.Needs.{needs}
 use Rattle.names.proofs.is_other.Statement.{statement}

@@ -1,3 +1,5 @@
+-- `names::is_same` meets its contract: two fields of one length are the same where their common start is all of them.
+-- Assumes nothing.
 use Rattle.names.proofs.Runs.{other-length, run-same}
 use borrow.Author.Needs.{needs}
 use Rattle.names.proofs.is_same.Statement.{statement}

@@ -1,3 +1,5 @@
+-- `names::others` meets its contract: the invariant is that of `others_by_eight`, one byte at a time.
+-- Assumes nothing.
 use Rattle.names.proofs.Runs.{passed-one, run-stop, run-end, run-is}
 use Rattle.names.specs.Runs.{Passed, otherAt}
 use Rattle.names.specs.Names.{isOther}

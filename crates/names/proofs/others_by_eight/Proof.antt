@@ -1,3 +1,5 @@
+-- `names::others_by_eight` meets its contract: the invariant: the bytes before i may stand in a name.
+-- Assumes nothing.
 use Rattle.names.proofs.Runs.{passed-start, passed-eight}
 use Rattle.names.specs.Runs.{Passed, otherAt}
 use borrow.Author.Tests.{not-false}

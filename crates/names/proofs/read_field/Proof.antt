@@ -1,3 +1,5 @@
+-- `names::read_field` meets its contract: a field is the run of bytes that may stand in a name, and what is behind it.
+-- Assumes nothing.
 use Rattle.names.proofs.Names.{field-unpadded, field-blank, field-named, field-digit}
 use Rattle.names.proofs.Lists.{while-length}
 use Rattle.names.specs.Names.{isOther}

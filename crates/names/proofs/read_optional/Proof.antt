@@ -1,3 +1,5 @@
+-- `names::read_optional` meets its contract: by the cases of `read_field`.
+-- Assumes nothing.
 use Rattle.names.proofs.Names.{optional-named, optional-blank, optional-refused}
 use mathlib.Core.Path.{sym, _∙_}
 use borrow.Author.Needs.{needs}

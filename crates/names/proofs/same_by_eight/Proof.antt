@@ -1,7 +1,8 @@
+-- `names::same_by_eight` meets its contract: the invariant: the bytes before i are the same.
+-- Assumes nothing.
 use Rattle.names.proofs.Runs.{passed-start, passed-eight}
 use Rattle.names.specs.Runs.{Passed, sameAt}
 use borrow.Author.Tests.{not-false}
-use lib.ListN.{length}
 use native.Mathlib.Omega.{arith}
 use mathlib.Core.Path.{sym, _∙_}
 use Prim.Native.Nat.{_-_}

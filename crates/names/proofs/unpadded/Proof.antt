@@ -1,3 +1,5 @@
+-- `names::unpadded` meets its contract: the invariant: no byte before i is zero.
+-- Assumes nothing.
 use Rattle.names.proofs.Names.{text-part, padding, no-pad}
 use Rattle.names.proofs.Runs.{passed-start, passed-one, run-stop, run-end}
 use Rattle.names.specs.Runs.{Passed}

@@ -1,0 +1,26 @@
+//! The library's table check, made safe to call from Rust.
+//! This file uses nothing else of the harness: copy it into a program that links libflat_table.a.
+
+/// What the check answers, laid out as `bandrolt_table_answer` in bandrolt.h.
+///
+/// A closed table has number 0, place 0 and its number of records; a refused one has its
+/// number, 14 to 17, the place of that, and count 0.
+#[repr(C)]
+#[derive(Clone, Copy, Debug, PartialEq, Eq)]
+pub struct TableAnswer {
+    pub number: u64,
+    pub place: u64,
+    pub count: u64,
+}
+
+mod c {
+    extern "C" {
+        pub fn bandrolt_check_table(table: *const u8, length: usize) -> super::TableAnswer;
+    }
+}
+
+/// Checks a flat table, of any bytes and any length.
+pub fn check_table(table: &[u8]) -> TableAnswer {
+    // SAFETY: pointer and length are those of a slice, which the call reads and doesn't keep.
+    unsafe { c::bandrolt_check_table(table.as_ptr(), table.len()) }
+}

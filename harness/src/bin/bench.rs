@@ -1,0 +1,116 @@
+//! Times the library's table check beside the other program's, on the same tables in one run.
+//! It prints microseconds for one table and judges nothing.
+
+use harness::bandrolt::{check_table, TableAnswer};
+use harness::other::table;
+use harness::random::Random;
+use harness::tables::{closed, encode, Links, Names, MAX_RECORDS};
+use std::hint::black_box;
+use std::time::Instant;
+
+const ROWS: [usize; 4] = [1, 10, 100, MAX_RECORDS];
+const TABLES: u64 = 8;
+const ROUNDS: usize = 21;
+const BATCH_SECONDS: f64 = 0.002;
+
+type Check = fn(&[u8]) -> TableAnswer;
+
+const PROGRAMS: [Check; 2] = [check_table, |table| table::check(table).into()];
+
+struct Family {
+    what: &'static str,
+    names: Names,
+    links: Links,
+    all_equal: bool,
+}
+
+const fn family(what: &'static str, names: Names, links: Links) -> Family {
+    Family {
+        what,
+        names,
+        links,
+        all_equal: false,
+    }
+}
+
+const FAMILIES: [Family; 7] = [
+    family("typical, links near", Names::Typical, Links::Near),
+    family("typical, links anywhere", Names::Typical, Links::Anywhere),
+    family("60 of 68 bytes in common", Names::Common, Links::Anywhere),
+    family("68 bytes, rising", Names::Rising, Links::Anywhere),
+    family("68 bytes, falling", Names::Falling, Links::Anywhere),
+    family("68 bytes of one hash", Names::OneHash, Links::Anywhere),
+    Family {
+        all_equal: true,
+        ..family("68 bytes, all equal", Names::Full, Links::Anywhere)
+    },
+];
+
+fn main() {
+    println!(
+        "{:<26}{:>6}{:>12}{:>12}{:>8}",
+        "names", "rows", "ours, us", "other, us", "ratio"
+    );
+    let mut growth = Vec::new();
+    for family in &FAMILIES {
+        let mut ours_before = 0.0;
+        for rows in ROWS {
+            let tables: Vec<Vec<u8>> = (0..TABLES).map(|seed| make(family, rows, seed)).collect();
+            let [ours, other] = times(&tables);
+            println!(
+                "{:<26}{rows:>6}{ours:>12.3}{other:>12.3}{:>8.2}",
+                family.what,
+                ours / other
+            );
+            if rows == MAX_RECORDS {
+                growth.push(format!("{} {:.1}", family.what, ours / ours_before));
+            }
+            ours_before = ours;
+        }
+    }
+    println!(
+        "growth of ours from 100 rows to 1,024: {}",
+        growth.join("; ")
+    );
+}
+
+fn make(family: &Family, rows: usize, seed: u64) -> Vec<u8> {
+    let mut records = closed(rows, family.names, family.links, &Random::new(seed));
+    let mut number = 0;
+    if family.all_equal {
+        let name = records[0].name;
+        records.iter_mut().for_each(|record| record.name = name);
+        number = if rows > 1 { 16 } else { 0 };
+    }
+    let table = encode(&records);
+    let [ours, other] = PROGRAMS.map(|check| check(&table));
+    assert_eq!(ours, other, "the programs answer the same");
+    assert_eq!(ours.number, number, "the table is what its family says");
+    table
+}
+
+/// Each program's microseconds for one table, in its best round.
+fn times(tables: &[Vec<u8>]) -> [f64; 2] {
+    let mut repeats = 1;
+    while batch(PROGRAMS[1], tables, repeats) < BATCH_SECONDS {
+        repeats *= 2;
+    }
+    // The programs take turns, so that what else the machine does falls on both.
+    let mut best = [f64::INFINITY; 2];
+    for _ in 0..ROUNDS {
+        for (best, check) in best.iter_mut().zip(PROGRAMS) {
+            *best = best.min(batch(check, tables, repeats));
+        }
+    }
+    best.map(|seconds| seconds * 1e6 / (repeats * tables.len()) as f64)
+}
+
+fn batch(check: Check, tables: &[Vec<u8>], repeats: usize) -> f64 {
+    let start = Instant::now();
+    for _ in 0..repeats {
+        for table in tables {
+            black_box(check(black_box(table)));
+        }
+    }
+    start.elapsed().as_secs_f64()
+}

@@ -1,0 +1,58 @@
+/* Bandrolt's table check, for C99 and C++; link with libflat_table.a.
+   It tells whether a flat table is closed, as document 01 says it. */
+
+#ifndef BANDROLT_H
+#define BANDROLT_H
+
+#include <stddef.h>
+#include <stdint.h>
+
+#ifdef __cplusplus
+extern "C" {
+#endif
+
+typedef struct bandrolt_table_answer {
+    uint64_t number; /* 0 for a closed table, or else 14 to 17 */
+    uint64_t place;  /* offset of the record at fault, or 0 */
+    uint64_t count;  /* number of records of a closed table, or else 0 */
+} bandrolt_table_answer;
+
+/* Checks the `length` bytes at `table`.
+
+   A table is a row of records of 205 bytes: the class, then the name, parent and
+   reference, each in 68 bytes. A name is 1 to 68 ASCII letters, digits and
+   underscores, the first no digit, then zeros; a blank field is all zeros.
+
+     class                 parent     reference
+     1 compartment         blank      blank
+     2 species             blank      class 1
+     3 parameter           blank      blank
+     4 reaction            blank      blank or class 1
+     5 species reference   class 4    class 2
+     6 rate rule           blank      class 1, 2 or 3
+     7 local parameter     class 4    blank
+
+   A closed table, such as an empty one, gives number 0, place 0 and its number of
+   records. Any other gives count 0 and the lowest of these numbers that applies,
+   with its lowest place:
+
+     14, at 0: the length is no multiple of 205, or over 209,920 (1,024 records);
+     15, at a record: its class is not 1 to 7, its name is no name, or its parent
+         or reference is neither a name nor blank;
+     16, at a record: an earlier one has the same name;
+     17, at a record: its parent is against the classes above or no earlier record,
+         or its reference is against them or no record of the table.
+
+   The call reads those bytes alone, writes none, ends on all input and keeps no
+   state, so several threads may call it at once. It allocates nothing.
+   `table` may be null only with length 0. It needs less than
+   BANDROLT_CHECK_TABLE_STACK bytes of stack. */
+#define BANDROLT_CHECK_TABLE_STACK 16384
+
+bandrolt_table_answer bandrolt_check_table(const uint8_t *table, size_t length);
+
+#ifdef __cplusplus
+}
+#endif
+
+#endif

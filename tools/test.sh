@@ -1,0 +1,42 @@
+#!/usr/bin/env bash
+# The gate: layout, proofs and must-fail edits, then every program beside them, from nothing.
+# Each step ends with 'N passed, M failed'; the last line adds them up, and says no where a step did.
+set -u -o pipefail
+cd "$(dirname "$0")/.."
+passed=0
+failed=0
+
+# step WHAT COMMAND..: runs the command, shows what it prints, and counts its last line.
+step() {
+    local what=$1 output status last
+    shift
+    output=$(mktemp)
+    echo "== $what"
+    "$@" 2>&1 | tee "$output"
+    status=$?
+    last=$(tail -n 1 "$output")
+    rm -f "$output"
+    if [[ $last =~ ^([0-9]+)\ passed,\ ([0-9]+)\ failed$ ]]; then
+        passed=$((passed + BASH_REMATCH[1]))
+        failed=$((failed + BASH_REMATCH[2]))
+        [ "$status" -eq 0 ] || [ "${BASH_REMATCH[2]}" -gt 0 ] || failed=$((failed + 1))
+    else
+        failed=$((failed + 1))
+        echo "$what: no verdict (status $status)"
+    fi
+}
+
+layout() {
+    if rt fmt --check; then echo "1 passed, 0 failed"; else
+        echo "0 passed, 1 failed"
+        return 1
+    fi
+}
+
+step "layout" layout
+step "proofs and must-fail edits" rt ci
+step "comparison with the other program" make --no-print-directory compare
+step "the solver, in C" make --no-print-directory solver
+step "stack" make --no-print-directory stack
+echo "$passed passed, $failed failed"
+[ "$failed" -eq 0 ] && [ "$passed" -gt 0 ]
