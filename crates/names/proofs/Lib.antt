@@ -6,3 +6,4 @@ pub mod Tables
 pub mod Orders
 pub mod Runs
 pub mod Names
+pub mod More

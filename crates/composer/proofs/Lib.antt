@@ -1,0 +1,12 @@
+-- The laws of flattening, and 01's samples shown of the definitions. `Promises` has demand 3 at a glance.
+pub mod Promises
+pub mod Open
+pub mod Starred
+pub mod Prefixes
+pub mod Apart
+pub mod OneName
+pub mod Lengths
+pub mod Characters
+pub mod Table
+pub mod Verdicts
+pub mod Printed

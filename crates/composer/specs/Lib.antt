@@ -1,0 +1,6 @@
+-- What flattening promises: prefixes and flat records, the verdict and the output, what is printed, and 01's samples.
+pub mod Flat
+pub mod FlatRecords
+pub mod Verdicts
+pub mod Printed
+pub mod Samples

@@ -1,0 +1,6 @@
+-- The laws of marks: targets in the tree, the chain's five steps, what survives, and what rows 9 to 12 say where they do not apply.
+pub mod Marks
+pub mod Chain
+pub mod Conflicts
+pub mod Survivors
+pub mod Classes

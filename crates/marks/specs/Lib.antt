@@ -1,0 +1,3 @@
+-- Marks in the tree: targets, conflicts, what is gone, the chain, and rows 9, 11 and 12 of 01's "Verdicts".
+pub mod Marks
+pub mod Faults

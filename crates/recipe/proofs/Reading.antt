@@ -1,0 +1,179 @@
+-- Reading a recipe's records: as many tries as there are bytes left suffice, places rise, and what a loop over the records keeps.
+-- Assumes nothing.
+use mathlib.Core.Path.{_≡_, refl, sym, ap, _∙_}
+use mathlib.Core.Logic.{⊎-elim}
+use Prim.Native.Nat.{ℕ, zero, suc, _+_, _≤_, _<_}
+use native.Mathlib.Omega.{arith}
+use mathlib.Core.Bool.{Bool, true, false, _&&_, _||_, false≢true}
+use mathlib.Core.Option.{none, some}
+use mathlib.Core.List.{List, _∷_}
+use lib.ListN.{length, List·getD-eq-default}
+use lib.Dec.{leb, ltb}
+use borrow.Author.Tests.{ltb-false, leb-true, lt-leb, le-leb, eq-eqb, ne-eqb}
+use Rattle.names.specs.Lists.{In, first}
+use Rattle.names.proofs.Tests.{by-cases, not-none, and-left, and-right, or-cases}
+use Rattle.names.proofs.More.{and-false, Rising, rising-from, first-lowest}
+use Rattle.recipe.specs.Records.{Recipe, isKnown, kind, isModel, recordLength, next, isReadable, placesFrom, stopFrom, places, stop}
+use Rattle.recipe.specs.Reading.{fault₂}
+
+module _ (s : Recipe) where
+  -- a record that is read is in the recipe
+  pub readable-fits : (p : ℕ) → isReadable s p ≡ true → next s p ≤ length (s .bytes)
+  unfolding isReadable
+  readable-fits p e =
+      leb-true (next s p) (length (s .bytes))
+      (and-right (isKnown (kind s p)) _ (and-left (isKnown (kind s p) && leb (next s p) (length (s .bytes))) _ e))
+
+  pub next-more : (p : ℕ) → p < next s p
+  unfolding next recordLength
+  next-more p = omega arith
+
+  -- nothing is read at the end
+  pub unread : (p : ℕ) → length (s .bytes) ≤ p → isReadable s p ≡ false
+  unread p h =
+      by-cases (isReadable s p)
+      (λ e. absurd (omega (arith, readable-fits p e, next-more p)))
+      (λ e. e)
+
+  -- ---- more tries change nothing: as many as there are bytes left suffice
+  pub places-suffice : (n m p : ℕ) → length (s .bytes) ≤ p + n → length (s .bytes) ≤ p + m → placesFrom n s p ≡ placesFrom m s p
+  unfolding placesFrom
+  places-suffice zero zero p h k = refl
+  places-suffice zero (suc m) p h k = rw (unread p (omega arith), placesFrom)
+  places-suffice (suc n) zero p h k = rw (unread p (omega arith), placesFrom)
+  places-suffice (suc n) (suc m) p h k =
+      by-cases (isReadable s p)
+      (λ e. rw (e, placesFrom) (ap (λ (l : List ℕ). p ∷ l) (places-suffice n m (next s p) (omega (arith, next-more p)) (omega (arith, next-more p)))))
+      (λ e. rw (e, placesFrom))
+
+  pub stop-suffices : (n m p : ℕ) → length (s .bytes) ≤ p + n → length (s .bytes) ≤ p + m → stopFrom n s p ≡ stopFrom m s p
+  unfolding stopFrom
+  stop-suffices zero zero p h k = refl
+  stop-suffices zero (suc m) p h k = rw (unread p (omega arith), stopFrom)
+  stop-suffices (suc n) zero p h k = rw (unread p (omega arith), stopFrom)
+  stop-suffices (suc n) (suc m) p h k =
+      by-cases (isReadable s p)
+      (λ e. rw (e, stopFrom) (stop-suffices n m (next s p) (omega (arith, next-more p)) (omega (arith, next-more p))))
+      (λ e. rw (e, stopFrom))
+
+  -- so the places are those of any greater number of tries
+  pub places-more : (k : ℕ) → places s ≡ placesFrom (length (s .bytes) + k) s 0
+  unfolding places
+  places-more k = places-suffice (length (s .bytes)) (length (s .bytes) + k) 0 (omega arith) (omega arith)
+
+  pub stop-more : (k : ℕ) → stop s ≡ stopFrom (length (s .bytes) + k) s 0
+  unfolding stop
+  stop-more k = stop-suffices (length (s .bytes)) (length (s .bytes) + k) 0 (omega arith) (omega arith)
+
+  -- ---- each place is that of a whole record, and places rise
+  places-rise-from : (n p : ℕ) → Rising p (placesFrom n s p)
+  unfolding placesFrom
+  places-rise-from zero p = tt
+  places-rise-from (suc n) p =
+      by-cases (isReadable s p)
+      (λ e. rw (e, placesFrom) (omega arith, rising-from (suc p) (next s p) (placesFrom n s (next s p)) (next-more p) (places-rise-from n (next s p))))
+      (λ e. rw (e, placesFrom) tt)
+
+  pub places-rise : Rising 0 (places s)
+  unfolding places
+  places-rise = places-rise-from (length (s .bytes)) 0
+
+  -- "then its lowest place": what a row's first fault is
+  pub lowest-place : (t : ℕ → Bool) (p q : ℕ) → first t (places s) ≡ some p → In q (places s) → q < p → t q ≡ false
+  lowest-place t p q e i l = first-lowest t 0 (places s) p q places-rise e i l
+
+  readable-from : (n p q : ℕ) → In q (placesFrom n s p) → isReadable s q ≡ true
+  unfolding placesFrom
+  readable-from zero p q i = absurd i
+  readable-from (suc n) p q i =
+      by-cases (isReadable s p)
+      (λ e. ⊎-elim (λ (h : q ≡ p). ap (isReadable s) h ∙ e) (λ (j : In q (placesFrom n s (next s p))). readable-from n (next s p) q j) (rw (e, placesFrom) at i))
+      (λ e. absurd (rw (e, placesFrom) at i))
+
+  pub readable : (q : ℕ) → In q (places s) → isReadable s q ≡ true
+  unfolding places
+  readable q i = readable-from (length (s .bytes)) 0 q i
+
+  -- ---- reading stops in the recipe, and where row 2 does not apply, at its end
+  stop-fits : (n p : ℕ) → p ≤ length (s .bytes) → stopFrom n s p ≤ length (s .bytes)
+  unfolding stopFrom
+  stop-fits zero p h = h
+  stop-fits (suc n) p h =
+      by-cases (isReadable s p)
+      (λ e. rw (e, stopFrom) (stop-fits n (next s p) (readable-fits p e)))
+      (λ e. rw (e, stopFrom) h)
+
+  pub stop-within : stop s ≤ length (s .bytes)
+  unfolding stop
+  stop-within = stop-fits (length (s .bytes)) 0 (omega arith)
+
+  pub read-through : fault₂ s ≡ none → stop s ≡ length (s .bytes)
+  unfolding fault₂
+  read-through h =
+      by-cases (ltb (stop s) (length (s .bytes)))
+      (λ e. not-none (sym (rw e at h)))
+      (λ e. omega (arith, ltb-false (stop s) (length (s .bytes)) e, stop-within))
+
+  -- ---- what is left to read at p: enough tries, and the stop that they lead to
+  abbrev pub Left : ℕ → Type 0
+  Left p = (n : ℕ) × (length (s .bytes) ≤ p + n) × (stop s ≡ stopFrom n s p)
+
+  pub left-start : Left 0
+  unfolding stop
+  left-start = (length (s .bytes), omega arith, refl)
+
+  pub left-more : (p : ℕ) → isReadable s p ≡ true → Left p → Left (next s p)
+  unfolding stopFrom
+  left-more p e l = go (l .0) (l .1) (l .2)
+    where
+      go : (n : ℕ) → length (s .bytes) ≤ p + n → stop s ≡ stopFrom n s p → Left (next s p)
+      go zero h q = absurd (omega (arith, readable-fits p e, next-more p))
+      go (suc n) h q = (n, omega (arith, next-more p), rw (e, stopFrom) at q)
+
+  pub left-end : (p : ℕ) → isReadable s p ≡ false → Left p → p ≡ stop s
+  unfolding stopFrom
+  left-end p e l = sym (l .2 ∙ go (l .0))
+    where
+      go : (n : ℕ) → stopFrom n s p ≡ p
+      go zero = refl
+      go (suc n) = rw (e, stopFrom)
+
+  -- ---- the test, case by case
+  unknown : (p : ℕ) → isKnown (kind s p) ≡ false → false ≡ isReadable s p
+  unfolding isReadable
+  unknown p e = rw e
+
+  pub not-past : (p : ℕ) → length (s .bytes) ≤ p → false ≡ isReadable s p
+  unfolding isKnown kind
+  not-past p h = unknown p (rw (List·getD-eq-default (s .bytes) 0 h))
+
+  pub not-low : (p : ℕ) → kind s p < 1 → false ≡ isReadable s p
+  unfolding isKnown
+  not-low p h = unknown p (rw (lt-leb 1 (kind s p) h))
+
+  pub not-high : (p : ℕ) → 7 < kind s p → false ≡ isReadable s p
+  unfolding isKnown
+  not-high p h = unknown p (rw (lt-leb (kind s p) 7 h) (and-false (leb 1 (kind s p))))
+
+  pub not-whole : (p : ℕ) → length (s .bytes) < next s p → false ≡ isReadable s p
+  unfolding isReadable
+  not-whole p h = rw (lt-leb (next s p) (length (s .bytes)) h, and-false (isKnown (kind s p)))
+
+  pub whole : (p : ℕ) → 1 ≤ kind s p → kind s p ≤ 7 → next s p ≤ length (s .bytes) → isModel s p || ltb 0 p ≡ isReadable s p
+  unfolding isReadable isKnown
+  whole p a b c = rw (le-leb 1 (kind s p) a, le-leb (kind s p) 7 b, le-leb (next s p) (length (s .bytes)) c)
+
+  pub whole-model : (p : ℕ) → kind s p ≡ 1 → next s p ≤ length (s .bytes) → true ≡ isReadable s p
+  unfolding isModel
+  whole-model p k c = rw (eq-eqb (kind s p) 1 k) at (whole p (omega arith) (omega arith) c)
+
+  pub whole-other : (p : ℕ) → (kind s p ≡ 1 → ⊥) → 1 ≤ kind s p → kind s p ≤ 7 → next s p ≤ length (s .bytes) → ltb 0 p ≡ isReadable s p
+  unfolding isModel
+  whole-other p k a b c = rw (ne-eqb (kind s p) 1 k) at (whole p a b c)
+
+  -- the first record is a model
+  pub first-model : isReadable s 0 ≡ true → isModel s 0 ≡ true
+  unfolding isReadable
+  first-model e =
+      ⊎-elim (λ (h : isModel s 0 ≡ true). h) (λ (h : _≡_ {A = Bool} false true). absurd (false≢true h))
+      (or-cases (isModel s 0) false (and-right (isKnown (kind s 0) && leb (next s 0) (length (s .bytes))) (isModel s 0 || false) e))

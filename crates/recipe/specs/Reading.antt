@@ -1,0 +1,131 @@
+-- 01's "Verdicts", rows 1 to 6, that judge a recipe without its tree: of each row the lowest place where it applies, if any.
+-- Assumes nothing.
+use Prim.Native.Nat.{ℕ}
+use mathlib.Core.Bool.{Bool, false, cond, not, _&&_, _||_}
+use mathlib.Core.Option.{Option, none, some}
+use mathlib.Core.List.{List}
+use lib.ListN.{length}
+use lib.Dec.{leb, ltb, eqb}
+use Rattle.names.specs.Lists.{any, first, isSome, holds, lastOr, same}
+use Rattle.names.specs.Names.{underscore, text, isName, isNameOrBlank, isBlank}
+use Rattle.flat_table.specs.Classes.{isClass, parentAllowed}
+use Rattle.recipe.specs.Records.{Recipe, isModel, isElement, isPort, isSubmodel, isDeletion, isReplacedBy, places, stop, firstField, name, class, parentField, referenceField, modelField, submodelField, way, targetField}
+use Rattle.recipe.specs.Definitions.{definitions, holder, isDeclared, elementNamed, submodelNamed, definitionNamed, elementIn}
+use Rattle.recipe.specs.Reaching.{reaches}
+
+-- column "Place", 0: there if the test passes
+unfoldable pub atStart : Bool → Option ℕ
+atStart b = cond b (some 0) none
+
+-- row 1, "over 16,384 bytes": the most bytes of a recipe
+unfoldable pub mostBytes : ℕ
+mostBytes = 16384
+
+-- row 1: "empty, or over 16,384 bytes"
+unfoldable pub fault₁ : Recipe → Option ℕ
+fault₁ s = atStart (eqb (length (s .bytes)) 0 || ltb mostBytes (length (s .bytes)))
+
+-- row 2: "kind unknown, body cut short, or first record not kind 1"; "2 stops at its own record"
+unfoldable pub fault₂ : Recipe → Option ℕ
+fault₂ s = cond (ltb (stop s) (length (s .bytes))) (some (stop s)) none
+
+-- "A submodel's name may not end with an underscore"
+unfoldable pub endsWithUnderscore : List ℕ → Bool
+endsWithUnderscore n = eqb (lastOr 0 n) underscore
+
+-- "The way byte is 0 .. or 1"
+unfoldable pub isWay : ℕ → Bool
+isWay w = leb w 1
+
+-- kind 2: "name, class byte, parent or blank, reference or blank" read
+unfoldable pub isElementForm : Recipe → ℕ → Bool
+isElementForm s p = isName (firstField s p) && isClass (class s p) && isNameOrBlank (parentField s p) && isNameOrBlank (referenceField s p)
+
+-- kind 3: "name, submodel or blank, way, target" read
+unfoldable pub isPortForm : Recipe → ℕ → Bool
+isPortForm s p = isName (firstField s p) && isNameOrBlank (submodelField s p) && isWay (way s p) && isName (targetField s p)
+
+-- kind 4: "name, model" read, and the name does not end with an underscore
+unfoldable pub isSubmodelForm : Recipe → ℕ → Bool
+isSubmodelForm s p = isName (firstField s p) && not (endsWithUnderscore (name s p)) && isName (modelField s p)
+
+-- kinds 5 to 7: "submodel, way, target" read, and the owner, which of a deletion is the submodel once more
+unfoldable pub isMarkForm : Recipe → ℕ → Bool
+isMarkForm s p = isName (firstField s p) && isName (submodelField s p) && isWay (way s p) && isName (targetField s p)
+
+-- the fields of the record at p read as its kind has them
+unfoldable pub isForm : Recipe → ℕ → Bool
+isForm s p =
+    cond (isModel s p) (isName (firstField s p))
+    (cond (isElement s p) (isElementForm s p)
+    (cond (isPort s p) (isPortForm s p)
+    (cond (isSubmodel s p) (isSubmodelForm s p)
+    (isMarkForm s p))))
+
+-- row 3: "a field that fails to read as a name, or is blank where no blank is allowed; way or class byte without meaning; a kind 4 whose own name ends with an underscore"
+unfoldable pub fault₃ : Recipe → Option ℕ
+fault₃ s = first (λ p. not (isForm s p)) (places s)
+
+-- row 4: two records of one definition that must not have one name (or, replaced-by's, one owner)
+unfoldable pub shareNames : Recipe → ℕ → ℕ → Bool
+shareNames s q p =
+    (isDeclared s q && isDeclared s p) || (isPort s q && isPort s p) || (isReplacedBy s q && isReplacedBy s p)
+
+-- row 4: the record at p has the name of the earlier one at q, and must not
+unfoldable pub repeats : Recipe → ℕ → ℕ → Bool
+repeats s p q =
+    ltb q p
+    && same (name s q) (name s p)
+    && ((isModel s q && isModel s p) || (eqb (holder s q) (holder s p) && shareNames s q p))
+
+-- row 4: "model name used twice; element or submodel name twice in a definition; port name twice in one; a definition's second replaced-by with one owner"
+unfoldable pub fault₄ : Recipe → Option ℕ
+fault₄ s = first (λ p. any (repeats s p) (places s)) (places s)
+
+-- row 5: the element at q, by its class and place, may be the parent of the one at e
+unfoldable pub isParent : Recipe → ℕ → ℕ → Bool
+isParent s e q = ltb q e && parentAllowed (class s e) (some (class s q))
+
+-- row 5: "parent against the class table or not an earlier element of the definition"
+unfoldable pub isParentFault : Recipe → ℕ → Bool
+isParentFault s e =
+    cond (isBlank (parentField s e))
+    (not (parentAllowed (class s e) none))
+    (not (holds (isParent s e) (elementIn s e (parentField s e))))
+
+-- row 5: "blank-submodel port with way 1 or unknown element"
+unfoldable pub isOwnPortFault : Recipe → ℕ → Bool
+isOwnPortFault s p = eqb (way s p) 1 || not (isSome (elementNamed s (holder s p) (text (targetField s p))))
+
+-- row 5: "submodel field no submodel .. of the definition"
+unfoldable pub isSubmodelFieldFault : Recipe → ℕ → Bool
+isSubmodelFieldFault s p = not (isSome (submodelNamed s (holder s p) (text (submodelField s p))))
+
+-- row 5: "or owner no element, of the definition"; a deletion has none
+unfoldable pub isOwnerFault : Recipe → ℕ → Bool
+isOwnerFault s p = not (isDeletion s p) && not (isSome (elementNamed s (holder s p) (text (firstField s p))))
+
+-- row 5: "submodel's model undefined"
+unfoldable pub isModelFault : Recipe → ℕ → Bool
+isModelFault s m = not (isSome (definitionNamed s (text (modelField s m))))
+
+-- row 5, of a port: a blank submodel field, or a filled one
+unfoldable pub isPortFault : Recipe → ℕ → Bool
+isPortFault s p = cond (isBlank (submodelField s p)) (isOwnPortFault s p) (isSubmodelFieldFault s p)
+
+-- row 5, by the kind of the record at p
+unfoldable pub isUndeclared : Recipe → ℕ → Bool
+isUndeclared s p =
+    cond (isModel s p) false
+    (cond (isElement s p) (isParentFault s p)
+    (cond (isPort s p) (isPortFault s p)
+    (cond (isSubmodel s p) (isModelFault s p)
+    (isSubmodelFieldFault s p || isOwnerFault s p))))
+
+-- row 5: "submodel's model undefined; parent against the class table ..; submodel field no submodel, or owner no element, of the definition; blank-submodel port .."
+unfoldable pub fault₅ : Recipe → Option ℕ
+fault₅ s = first (isUndeclared s) (places s)
+
+-- row 6: "definition reaches itself, used by main or not"
+unfoldable pub fault₆ : Recipe → Option ℕ
+fault₆ s = first (λ d. reaches s d d) (definitions s)

@@ -1,0 +1,135 @@
+-- 01's "Recipe records". A record is named by its place p, the offset of its kind byte. Names have any width: 01's is 12.
+-- Assumes nothing.
+use Prim.Native.Nat.{ℕ, zero, suc, _+_, _*_}
+use mathlib.Core.Bool.{Bool, true, false, _&&_, _||_}
+use mathlib.Core.List.{List, [], _∷_}
+use lib.ListN.{length, getD}
+use lib.Dec.{leb, ltb, eqb}
+use Rattle.names.specs.Names.{fieldAt, text}
+
+-- "A recipe is a byte string"; "A name field is 12 bytes": the width of its name fields
+pub record Recipe : Type 0 where
+  pub width : ℕ
+  pub bytes : List ℕ
+
+-- column "Bytes after kind", for kind 0 (which is none), 1, 2 .. 7, of name width w
+unfoldable pub bodyLengths : ℕ → List ℕ
+bodyLengths w = 0 ∷ w ∷ (3 * w + 1) ∷ (3 * w + 1) ∷ (2 * w) ∷ (2 * w + 1) ∷ (3 * w + 1) ∷ (3 * w + 1) ∷ []
+
+-- column "Kind": the kinds of the table
+unfoldable pub isKnown : ℕ → Bool
+isKnown k = leb 1 k && leb k 7
+
+-- "Each record is one kind byte and a body": the bytes of a record of kind k
+unfoldable pub recordLength : ℕ → ℕ → ℕ
+recordLength w k = 1 + getD (bodyLengths w) k 0
+
+-- the kind byte of the record at p
+unfoldable pub kind : Recipe → ℕ → ℕ
+kind s p = getD (s .bytes) p 0
+
+-- "1 model"
+unfoldable pub isModel : Recipe → ℕ → Bool
+isModel s p = eqb (kind s p) 1
+
+-- "2 element"
+unfoldable pub isElement : Recipe → ℕ → Bool
+isElement s p = eqb (kind s p) 2
+
+-- "3 port"
+unfoldable pub isPort : Recipe → ℕ → Bool
+isPort s p = eqb (kind s p) 3
+
+-- "4 submodel"
+unfoldable pub isSubmodel : Recipe → ℕ → Bool
+isSubmodel s p = eqb (kind s p) 4
+
+-- "5 deletion"
+unfoldable pub isDeletion : Recipe → ℕ → Bool
+isDeletion s p = eqb (kind s p) 5
+
+-- "6 replacement"
+unfoldable pub isReplacement : Recipe → ℕ → Bool
+isReplacement s p = eqb (kind s p) 6
+
+-- "7 replaced-by"
+unfoldable pub isReplacedBy : Recipe → ℕ → Bool
+isReplacedBy s p = eqb (kind s p) 7
+
+-- "A mark has one of three kinds (5, 6, 7)"
+unfoldable pub isMark : Recipe → ℕ → Bool
+isMark s p = isDeletion s p || isReplacement s p || isReplacedBy s p
+
+-- "a body whose length the kind fixes": where the record after the one at p begins
+unfoldable pub next : Recipe → ℕ → ℕ
+next s p = p + recordLength (s .width) (kind s p)
+
+-- the record at p is whole, of a known kind, and of kind 1 if it is the first: row 2 does not refuse it
+unfoldable pub isReadable : Recipe → ℕ → Bool
+isReadable s p = isKnown (kind s p) && leb (next s p) (length (s .bytes)) && (isModel s p || ltb 0 p)
+
+-- the places of the records from p on, up to the first that row 2 refuses; n tries, of which as many as there are bytes left suffice
+unfoldable pub placesFrom : ℕ → Recipe → ℕ → List ℕ
+placesFrom zero s p = []
+placesFrom (suc n) s p = elim (isReadable s p) [ true ↦ p ∷ placesFrom n s (next s p) | false ↦ [] ]
+
+-- "2 stops at its own record": the offset at which that reading stops
+unfoldable pub stopFrom : ℕ → Recipe → ℕ → ℕ
+stopFrom zero s p = p
+stopFrom (suc n) s p = elim (isReadable s p) [ true ↦ stopFrom n s (next s p) | false ↦ p ]
+
+-- "Each record is one kind byte and a body whose length the kind fixes": the places of the records
+unfoldable pub places : Recipe → List ℕ
+places s = placesFrom (length (s .bytes)) s 0
+
+-- where reading stops: the recipe's end, or the first record that row 2 refuses
+unfoldable pub stop : Recipe → ℕ
+stop s = stopFrom (length (s .bytes)) s 0
+
+-- the name field that begins k bytes into the body of the record at p
+unfoldable pub field : Recipe → ℕ → ℕ → List ℕ
+field s p k = fieldAt (s .width) (s .bytes) (p + 1 + k)
+
+-- the byte there
+unfoldable pub byte : Recipe → ℕ → ℕ → ℕ
+byte s p k = getD (s .bytes) (p + 1 + k) 0
+
+-- column "Body": the first field, which is the name (kinds 1 to 4), the owner (6 and 7) or the submodel (5)
+unfoldable pub firstField : Recipe → ℕ → List ℕ
+firstField s p = field s p 0
+
+-- the name of a record of kinds 1 to 4
+unfoldable pub name : Recipe → ℕ → List ℕ
+name s p = text (firstField s p)
+
+-- kind 2, "name, class byte, parent or blank, reference or blank": the class
+unfoldable pub class : Recipe → ℕ → ℕ
+class s p = byte s p (s .width)
+
+-- the parent
+unfoldable pub parentField : Recipe → ℕ → List ℕ
+parentField s p = field s p (s .width + 1)
+
+-- the reference
+unfoldable pub referenceField : Recipe → ℕ → List ℕ
+referenceField s p = field s p (2 * s .width + 1)
+
+-- kind 4, "name, model": the model
+unfoldable pub modelField : Recipe → ℕ → List ℕ
+modelField s p = field s p (s .width)
+
+-- kinds 3 and 5 to 7, "submodel, way, target": where the submodel begins in the body, which is behind a name but for a deletion
+unfoldable pub submodelOffset : Recipe → ℕ → ℕ
+submodelOffset s p = elim (isDeletion s p) [ true ↦ 0 | false ↦ s .width ]
+
+-- the submodel of a port or mark
+unfoldable pub submodelField : Recipe → ℕ → List ℕ
+submodelField s p = field s p (submodelOffset s p)
+
+-- "The way byte is 0 (target given by element name) or 1 (by port name)"
+unfoldable pub way : Recipe → ℕ → ℕ
+way s p = byte s p (submodelOffset s p + s .width)
+
+-- the target's name
+unfoldable pub targetField : Recipe → ℕ → List ℕ
+targetField s p = field s p (submodelOffset s p + s .width + 1)

@@ -1,0 +1,6 @@
+-- The laws of the tree: its nodes and instances, and where targets lie.
+pub mod Nodes
+pub mod Instances
+pub mod Targets
+pub mod Order
+pub mod Rows
