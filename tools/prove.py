@@ -39,7 +39,8 @@ def block(lines, i):
 def goals(crate, holes, write):
     command = ["rt", "dev", crate] + (["--allow-holes"] if holes else [])
     done = subprocess.run(command, capture_output=True, text=True, env=dict(os.environ, RT_CUT="0"))
-    lines = (done.stdout + done.stderr).split("\n")
+    output = done.stdout + done.stderr
+    lines = output.split("\n")
     i = 0
     while i < len(lines):
         line = lines[i]
@@ -60,7 +61,7 @@ def goals(crate, holes, write):
                 i += 1
         elif line.startswith("fn ") and not line.endswith(": proved"):
             print(short(line)[:260])
-    print("proved:", " ".join(re.findall(r"^fn \w+::(\w+): proved", done.stdout, re.M)))
+    print("proved:", " ".join(re.findall(r"^fn \w+::(\w+): proved", output, re.M)))
 
 
 def places(crate, function):

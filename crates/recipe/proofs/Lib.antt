@@ -1,5 +1,7 @@
 -- The laws of recipes: reading the records, definitions, reaching, and what rows 1 to 6 say where they do not apply.
+pub mod RecordLengths
 pub mod Reading
+pub mod Going
 pub mod Definitions
 pub mod Reaching
 pub mod Rows

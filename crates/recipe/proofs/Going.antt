@@ -1,0 +1,78 @@
+-- A loop over the records of a recipe that stops at the first that passes a test: what is left of it at p.
+-- Assumes nothing.
+use mathlib.Core.Path.{_≡_, refl, ap, _∙_}
+use mathlib.Core.Logic.{inl, inr}
+use Prim.Native.Nat.{ℕ, zero, suc, _+_, _≤_, _<_}
+use native.Mathlib.Omega.{arith}
+use mathlib.Core.Bool.{Bool, true, false}
+use mathlib.Core.Option.{none, some}
+use mathlib.Core.List.{[], _∷_}
+use lib.ListN.{length}
+use Rattle.names.specs.Lists.{In, first}
+use Rattle.names.proofs.Tests.{by-cases}
+use Rattle.recipe.specs.Records.{Recipe, next, isReadable, placesFrom, stopFrom, places, stop}
+use Rattle.recipe.proofs.Reading.{readable-fits, next-more, unread}
+
+-- at p, a place or the end: the tries left, and what is left to scan
+pub record Going (s : Recipe) (t : ℕ → Bool) (p : ℕ) : Type 0 where
+  pub tries : ℕ
+  pub enough : length (s .bytes) ≤ p + tries
+  pub stops : stop s ≡ stopFrom tries s p
+  pub inside : (x : ℕ) → In x (placesFrom tries s p) → In x (places s)
+  pub rest : first t (places s) ≡ first t (placesFrom tries s p)
+
+-- at the record at p: it is whole, and what is left behind it
+pub record Here (s : Recipe) (t : ℕ → Bool) (p : ℕ) : Type 0 where
+  pub tries : ℕ
+  pub enough : length (s .bytes) ≤ next s p + tries
+  pub readable : isReadable s p ≡ true
+  pub stops : stop s ≡ stopFrom tries s (next s p)
+  pub place : In p (places s)
+  pub inside : (x : ℕ) → In x (placesFrom tries s (next s p)) → In x (places s)
+  pub rest : first t (places s) ≡ first t (p ∷ placesFrom tries s (next s p))
+
+pub going-start : (s : Recipe) (t : ℕ → Bool) → Going s t 0
+unfolding stop places
+going-start s t = record { tries = length (s .bytes); enough = omega arith; stops = refl; inside = λ x i. i; rest = refl }
+
+module _ (s : Recipe) (t : ℕ → Bool) (p : ℕ) (whole : stop s ≡ length (s .bytes)) where
+  here-at : (n : ℕ) → length (s .bytes) ≤ p + n → stop s ≡ stopFrom n s p → ((x : ℕ) → In x (placesFrom n s p) → In x (places s))
+      → first t (places s) ≡ first t (placesFrom n s p) → p < length (s .bytes) → Here s t p
+  unfolding stopFrom placesFrom
+  here-at zero e st i r l = absurd (omega arith)
+  here-at (suc n) e st i r l =
+      by-cases (isReadable s p)
+      (λ b. record {
+        tries = n;
+        enough = omega (arith, next-more s p);
+        readable = b;
+        stops = rw (b, stopFrom) at st;
+        place = i p (rw (b, placesFrom) (inl refl));
+        inside = λ x j. i x (rw (b, placesFrom) (inr j));
+        rest = rw (b, placesFrom) at r;
+      })
+      (λ b. let q : stop s ≡ p = rw (b, stopFrom) at st in absurd (omega arith))
+
+  -- before the end there is a record
+  pub here : Going s t p → p < length (s .bytes) → Here s t p
+  here g l = here-at (g .tries) (g .enough) (g .stops) (g .inside) (g .rest) l
+
+pub here-fits : {s : Recipe} {t : ℕ → Bool} {p : ℕ} → Here s t p → next s p ≤ length (s .bytes)
+here-fits {s} {t} {p} h = readable-fits s p (h .readable)
+
+-- it passes the test: it is the first
+pub going-hit : {s : Recipe} {t : ℕ → Bool} {p : ℕ} → Here s t p → t p ≡ true → first t (places s) ≡ some p
+going-hit {s} {t} {p} h e = h .rest ∙ rw (e, first)
+
+-- it does not: go on behind it
+pub going-more : {s : Recipe} {t : ℕ → Bool} {p : ℕ} → Here s t p → t p ≡ false → Going s t (next s p)
+going-more {s} {t} {p} h e = record { tries = h .tries; enough = h .enough; stops = h .stops; inside = h .inside; rest = h .rest ∙ rw (e, first) }
+
+pub none-past : (s : Recipe) (n p : ℕ) → length (s .bytes) ≤ p → placesFrom n s p ≡ []
+unfolding placesFrom
+none-past s zero p l = refl
+none-past s (suc n) p l = rw (unread s p l, placesFrom)
+
+-- the end: none passes
+pub going-end : {s : Recipe} {t : ℕ → Bool} {p : ℕ} → Going s t p → length (s .bytes) ≤ p → first t (places s) ≡ none
+going-end {s} {t} {p} g l = g .rest ∙ ap (first t) (none-past s (g .tries) p l)

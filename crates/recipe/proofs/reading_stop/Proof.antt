@@ -1,0 +1,61 @@
+-- `recipe::reading_stop` meets its contract: at each test of the loop, what is left to read leads to the stop.
+-- Assumes nothing.
+use Prim.Native.Nat.{_-_, _≤_}
+use mathlib.Core.Path.{sym, _∙_}
+use native.Mathlib.Omega.{arith}
+use borrow.Author.Needs.{needs}
+use lib.ListN.{length}
+use Rattle.recipe.specs.Records.{kind, next}
+use Rattle.recipe.proofs.Reading.{readable-fits, next-more, Left, left-start, left-more, left-end}
+use Rattle.recipe.proofs.reading_stop.Statement.{statement}
+use Rattle.recipe.proofs.reading_stop.Tie as tie
+use Rattle.recipe.proofs.is_readable.Reads as is-readable-reads
+use Rattle.recipe.proofs.record_length.Reads as record-length-reads
+
+abbrev Inv-loop : tie.InvT-loop
+Inv-loop s w p₀ p = (p ≤ length s) × Left (record { width = w; bytes = s }) p
+
+abbrev μ-loop : tie.MeasureT-loop
+μ-loop s w p₀ p = length s - p
+
+loop-holds : tie.Need-loop-holds Inv-loop μ-loop
+loop-holds c = (omega arith, left-start (record { width = c .before .args .w; bytes = c .before .args .s .now }))
+
+is-readable-requires : tie.Need-is-readable-requires Inv-loop μ-loop
+is-readable-requires c κs = search needs
+
+shared-slice-read-record-length : tie.Need-shared-slice-read-record-length Inv-loop μ-loop
+shared-slice-read-record-length c = let e = sym (c .before .before .is-readable .ensures) ∙ c .before .if1 .taken in omega (arith, readable-fits (record { width = c .before .before .before .before .before .args .w; bytes = c .before .before .before .before .before .args .s .now }) (c .before .before .before .loop .p) e, next-more (record { width = c .before .before .before .before .before .args .w; bytes = c .before .before .before .before .before .args .s .now }) (c .before .before .before .loop .p))
+
+record-length-requires : tie.Need-record-length-requires Inv-loop μ-loop
+record-length-requires c κs = search needs
+
+add-p : tie.Need-add-p Inv-loop μ-loop
+unfolding kind next
+add-p c = let e = sym (c .before .before .before .is-readable .ensures) ∙ c .before .before .if1 .taken in omega (arith, readable-fits (record { width = c .before .before .before .before .before .before .args .w; bytes = c .before .before .before .before .before .before .args .s .now }) (c .before .before .before .before .loop .p) e, c .record-length .ensures)
+
+loop-less : tie.Need-loop-less Inv-loop μ-loop
+unfolding kind next
+loop-less c = let e = sym (c .before .before .before .is-readable .ensures) ∙ c .before .before .if1 .taken in omega (arith, readable-fits (record { width = c .before .before .before .before .before .before .args .w; bytes = c .before .before .before .before .before .before .args .s .now }) (c .before .before .before .before .loop .p) e, c .record-length .ensures, next-more (record { width = c .before .before .before .before .before .before .args .w; bytes = c .before .before .before .before .before .before .args .s .now }) (c .before .before .before .before .loop .p))
+
+loop-again : tie.Need-loop-again Inv-loop μ-loop
+unfolding kind next
+loop-again c = let e = sym (c .before .before .before .is-readable .ensures) ∙ c .before .before .if1 .taken in rw (c .record-length .ensures) (readable-fits (record { width = c .before .before .before .before .before .before .args .w; bytes = c .before .before .before .before .before .before .args .s .now }) (c .before .before .before .before .loop .p) e, left-more (record { width = c .before .before .before .before .before .before .args .w; bytes = c .before .before .before .before .before .before .args .s .now }) (c .before .before .before .before .loop .p) e (c .before .before .before .before .loop .inv .1))
+
+returns : tie.Need-returns Inv-loop μ-loop
+returns c = left-end (record { width = c .before .before .before .before .args .w; bytes = c .before .before .before .before .args .s .now }) _ (sym (c .before .is-readable .ensures) ∙ c .if1 .left) (c .before .before .loop .inv .1)
+
+pub reading-stop-spec : {M : Type 1} → statement M
+reading-stop-spec =
+    tie.close
+    (tie.spec
+    Inv-loop
+    μ-loop
+    loop-holds
+    is-readable-requires
+    shared-slice-read-record-length
+    record-length-requires
+    add-p
+    loop-less
+    loop-again
+    returns)
