@@ -9,7 +9,8 @@ use lib.ListN.{replicate}
 use Rattle.names.specs.Lists.{In, joined}
 use Rattle.names.specs.Names.{underscore, isOther, text, isBlank, isName, isNameOrBlank, areNameCharacters}
 use Rattle.names.proofs.Tests.{or-left, or-right}
-use Rattle.names.proofs.More.{name-not-blank, every-replicate, underscore-other, characters-others, characters-append, text-padded, blank-padded, name-padded}
+use Rattle.names.proofs.Lists.{every-replicate}
+use Rattle.names.proofs.Names.{name-not-blank, underscore-other, characters-others, characters-append, text-padded, blank-padded, name-padded}
 use Rattle.flat_table.specs.Table.{flatWidth}
 use Rattle.recipe.specs.Records.{Recipe, name}
 use Rattle.recipe.specs.Definitions.{main, submodels, modelOf}

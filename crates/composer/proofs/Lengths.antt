@@ -9,7 +9,7 @@ use mathlib.Core.List.{List, [], _∷_, map}
 use lib.ListN.{length, length-append}
 use Rattle.names.specs.Lists.{In, joined}
 use Rattle.names.proofs.Tests.{some-map, the-some}
-use Rattle.names.proofs.More.{padded-length, joined-length}
+use Rattle.names.proofs.Lists.{padded-length, joined-length}
 use Rattle.flat_table.specs.Table.{flatWidth, flatLength}
 use Rattle.recipe.specs.Records.{Recipe, name}
 use Rattle.recipe.specs.Definitions.{main, submodels, modelOf}

@@ -1,5 +1,5 @@
 -- One name that opens every definition of the specs: a proof by computation says `unfolding open-specs`.
--- Written by tools/gen_open.py from the specs of all floors. Assumes nothing.
+-- Written by tools/open_specs.py from the specs of all floors. Assumes nothing.
 use Rattle.names.specs.Lists.{padded}
 use Rattle.names.specs.Names.{isLetter, isDigit, underscore, isFirst, isOther, nonZero, areNameCharacters, text, isBlank, isName, isNameOrBlank, fieldAt}
 use Rattle.flat_table.specs.Classes.{isClass, hasParent, parentAllowed, referenceTable, referenceAllowed}

@@ -11,7 +11,7 @@ use mathlib.Core.List.{List, [], _∷_}
 use lib.ListN.{length, length-append, length-replicate}
 use Rattle.names.specs.Lists.{In, any, begins}
 use Rattle.names.proofs.Tests.{by-cases}
-use Rattle.names.proofs.More.{begins-length}
+use Rattle.names.proofs.Lists.{begins-length}
 use Rattle.composer.specs.Flat.{withUnderscores, isTaken, fewestFrom, fewest}
 
 -- each name of the list is at most w long

@@ -5,9 +5,8 @@ use Prim.Native.Nat.{ℕ, _*_, _≤_}
 use mathlib.Core.Bool.{false}
 use mathlib.Core.Option.{some}
 use lib.ListN.{length}
-use Rattle.names.specs.Lists.{In}
+use Rattle.names.specs.Lists.{In, Pointwise}
 use Rattle.names.specs.Names.{isBlank}
-use Rattle.names.proofs.More.{Pointwise}
 use Rattle.flat_table.specs.Table.{rowCount, flatWidth, flatLength, tableVerdict}
 use Rattle.recipe.specs.Records.{Recipe}
 use Rattle.recipe.specs.Definitions.{definitions}

@@ -12,11 +12,11 @@ use lib.ListN.{length, getD, take, drop}
 use lib.Seq.{drop-drop, getD-drop, take-at, drop-at}
 use lib.Dec.{ltb}
 use borrow.Author.Tests.{eq-eqb, le-ltb, lt-ltb, ltb-true}
-use Rattle.names.specs.Lists.{In, joined, same}
+use Rattle.names.specs.Lists.{In, joined, same, Pointwise}
 use Rattle.names.specs.Names.{isBlank, fieldAt}
 use Rattle.names.proofs.Tests.{by-cases, by-option, not-both, not-none, three, and-left, and-right}
-use Rattle.names.proofs.Lists.{eq-same, same-true, in-keep}
-use Rattle.names.proofs.More.{keep-length, any-none, first-none, first-is, earlier-first, earlier-second, earlier-keep, keep-earlier, Rising, rising-from, earlier-less, less-earlier, Pointwise, pointwise-left, pointwise-right, pointwise-earlier, earlier-pointwise}
+use Rattle.names.proofs.Lists.{eq-same, same-true, in-keep, keep-length, any-none, first-none, first-is}
+use Rattle.names.proofs.ListOrder.{earlier-first, earlier-second, earlier-keep, keep-earlier, Rising, rising-from, earlier-less, less-earlier, pointwise-left, pointwise-right, pointwise-earlier, earlier-pointwise}
 use Rattle.flat_table.specs.Classes.{parentAllowed, referenceAllowed}
 use Rattle.flat_table.specs.Table.{mostRows, tableJudge, rowsFrom, rowCount, rows, rowKind, rowName, rowParent, rowReference, rowNamed, fault₁₄, isMalformedRow, fault₁₅, isRepeatedRow, fault₁₆, isParentRow, isLinkFault, isParentFault, isReferenceRow, isReferenceFault, isRowFault, fault₁₇, verdictOf, flatWidth, flatLength, tableVerdict}
 use Rattle.recipe.specs.Records.{Recipe, class, parentField, referenceField}

@@ -10,8 +10,7 @@ use mathlib.Core.List.{List, _++_}
 use lib.ListN.{length, length-append}
 use Rattle.names.specs.Lists.{In, first, begins}
 use Rattle.names.proofs.Tests.{by-option, and-left, and-right, or-left, not-none, the-some, some-map}
-use Rattle.names.proofs.Lists.{some-first}
-use Rattle.names.proofs.More.{begins-rest}
+use Rattle.names.proofs.Lists.{some-first, begins-rest}
 use Rattle.recipe.specs.Records.{Recipe, places, isPort, isMark, isReplacement, isReplacedBy}
 use Rattle.recipe.specs.Definitions.{main, holder, ownerOf}
 use Rattle.recipe.specs.Reading.{fault₃, fault₅}

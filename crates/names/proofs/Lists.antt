@@ -1,18 +1,19 @@
 -- The laws of the list functions: what is in a list that they make, and what their answers say. Assumes nothing.
 use mathlib.Core.Path.{_≡_, refl, sym, ap, _∙_}
 use mathlib.Core.Logic.{_⊎_, inl, inr, ⊎-elim}
-use mathlib.Core.Bool.{Bool, true, false, false≢true, true≢false}
+use mathlib.Core.Bool.{Bool, true, false, not, false≢true, true≢false}
 use mathlib.Core.Option.{none, some}
 use mathlib.Core.List.{List, [], _∷_, _++_, map}
-use Prim.Native.Nat.{ℕ, _+_, _≤_, _<_}
+use Prim.Native.Nat.{ℕ, zero, suc, _+_, _*_, _≤_, _<_}
 use native.Mathlib.Omega.{arith}
+use native.Mathlib.Nat.{mul-zero, mul-suc}
 use native.Mathlib.Numerals.{add-one}
-use lib.ListN.{length, take, drop, getD}
+use lib.ListN.{length, take, drop, getD, replicate, length-append, length-replicate}
 use lib.Seq.{drop-cons}
 use lib.Dec.{eqb}
-use borrow.Author.Tests.{eq-eqb, eqb-true}
-use Rattle.names.specs.Lists.{In, keep, keepWhile, any, every, first, lastOr, joined, isSome, same, begins}
-use Rattle.names.proofs.Tests.{by-cases, and-left, and-right, not-none, the-some}
+use borrow.Author.Tests.{eq-eqb, ne-eqb, eqb-true}
+use Rattle.names.specs.Lists.{In, keep, keepWhile, any, every, first, lastOr, joined, isSome, same, begins, padded}
+use Rattle.names.proofs.Tests.{by-cases, not-both, and-left, and-right, not-none, the-some}
 
 module _ {A : Type 0} where
   -- what is kept is in the list and passes the test
@@ -170,3 +171,109 @@ same-eq {x} {y} {u} {v} p q = rw (p, q)
 pub begins-append : (xs ys : List ℕ) → begins xs (xs ++ ys) ≡ true
 begins-append [] ys = refl
 begins-append (x ∷ xs) ys = rw (eq-eqb x x refl) (begins-append xs ys)
+
+-- any: one of the list passes the test
+pub any-some : {A : Type 0} (t : A → Bool) (xs : List A) → any t xs ≡ true → (a : A) × In a xs × (t a ≡ true)
+any-some t [] e = absurd (false≢true e)
+any-some t (x ∷ xs) e =
+    by-cases (t x)
+    (λ h. (x, inl refl, h))
+    (λ h. let r = any-some t xs (rw (h, any) at e) in (r .0, inr (r .1), r .2))
+
+-- ---- beginnings
+-- what begins a list is no longer than it
+pub begins-length : (xs ys : List ℕ) → begins xs ys ≡ true → length xs ≤ length ys
+begins-length [] ys e = omega arith
+begins-length (x ∷ xs) [] e = absurd (false≢true e)
+begins-length (x ∷ xs) (y ∷ ys) e =
+    by-cases (eqb x y) (λ t. omega (arith, begins-length xs ys (rw t at e))) (λ t. absurd (false≢true (rw t at e)))
+
+-- what begins with a list is the list and a rest
+pub begins-rest : (xs ys : List ℕ) → begins xs ys ≡ true → (zs : List ℕ) × (ys ≡ xs ++ zs)
+begins-rest [] ys e = (ys, refl)
+begins-rest (x ∷ xs) [] e = absurd (false≢true e)
+begins-rest (x ∷ xs) (y ∷ ys) e =
+    by-cases (eqb x y)
+    (λ t.
+    let r = begins-rest xs ys (rw t at e) in
+    let p : x ≡ y = eqb-true x y t in
+    let q : ys ≡ xs ++ r .0 = r .1 in
+    (r .0, cc))
+    (λ t. absurd (false≢true (rw t at e)))
+
+-- ---- lengths
+pub padded-length : (w : ℕ) (n : List ℕ) → length n ≤ w → length (padded w n) ≡ w
+unfolding padded
+padded-length w n h = rw (length-append, length-replicate) (omega arith)
+
+pub joined-length : {A : Type 0} (f : A → List ℕ) (k : ℕ) (xs : List A) → ((x : A) → In x xs → length (f x) ≡ k)
+    → length (joined (map f xs)) ≡ k * length xs
+joined-length f k [] h = sym (mul-zero k)
+joined-length f k (x ∷ xs) h =
+    rw (length-append, h x (inl refl), joined-length f k xs (λ y i. h y (inr i)), mul-suc) (omega arith)
+
+-- ---- a list without one of its numbers, which is shorter
+unfoldable pub without : ℕ → List ℕ → List ℕ
+without x ys = keep (λ y. not (eqb y x)) ys
+
+pub keep-length : {A : Type 0} (t : A → Bool) (xs : List A) → length (keep t xs) ≤ length xs
+keep-length t [] = omega arith
+keep-length t (x ∷ xs) =
+    by-cases (t x)
+    (λ e. rw (e, keep) (omega (arith, keep-length t xs)))
+    (λ e. rw (e, keep) (omega (arith, keep-length t xs)))
+
+-- one that fails the test makes it shorter
+pub keep-shorter : {A : Type 0} (t : A → Bool) (xs : List A) (a : A) → In a xs → t a ≡ false → length (keep t xs) < length xs
+keep-shorter t [] a m e = absurd m
+keep-shorter t (x ∷ xs) a (inl p) e = rw (sym (ap t p) ∙ e, keep) (omega (arith, keep-length t xs))
+keep-shorter t (x ∷ xs) a (inr m) e =
+    by-cases (t x)
+    (λ h. rw (h, keep) (omega (arith, keep-shorter t xs a m e)))
+    (λ h. rw (h, keep) (omega (arith, keep-length t xs)))
+
+pub without-shorter : (x : ℕ) (ys : List ℕ) → In x ys → length (without x ys) < length ys
+unfolding without
+without-shorter x ys i = keep-shorter (λ y. not (eqb y x)) ys x i (rw (eq-eqb x x refl))
+
+pub without-in : (x : ℕ) (ys : List ℕ) (y : ℕ) → In y ys → (y ≡ x → ⊥) → In y (without x ys)
+unfolding without
+without-in x ys y i n = keep-in (λ z. not (eqb z x)) ys y i (rw (ne-eqb y x n))
+
+-- ---- a list with no member, and two functions that agree on each
+pub empty : {A : Type 0} (xs : List A) → ((a : A) → In a xs → ⊥) → xs ≡ []
+empty [] h = refl
+empty (x ∷ xs) h = absurd (h x (inl refl))
+
+pub map-same : {A B : Type 0} (f g : A → B) (xs : List A) → ((a : A) → In a xs → f a ≡ g a) → map f xs ≡ map g xs
+map-same f g [] h = refl
+map-same f g (x ∷ xs) h = rw (h x (inl refl), map-same f g xs (λ a i. h a (inr i)))
+
+-- ---- none, and just one, that passes a test
+module _ {A : Type 0} where
+  pub any-none : (t : A → Bool) (xs : List A) → ((a : A) → In a xs → t a ≡ false) → any t xs ≡ false
+  any-none t [] h = refl
+  any-none t (x ∷ xs) h = rw (h x (inl refl), any) (any-none t xs (λ a i. h a (inr i)))
+
+  pub first-none : (t : A → Bool) (xs : List A) → ((a : A) → In a xs → t a ≡ false) → first t xs ≡ none
+  first-none t [] h = refl
+  first-none t (x ∷ xs) h = rw (h x (inl refl), first) (first-none t xs (λ a i. h a (inr i)))
+
+  pub first-is : (t : A → Bool) (xs : List A) (a : A) → In a xs → t a ≡ true → ((b : A) → In b xs → t b ≡ true → b ≡ a) → first t xs ≡ some a
+  first-is t [] a i e h = absurd i
+  first-is t (x ∷ xs) a i e h =
+      by-cases (t x)
+      (λ k. rw (k, first) (ap some (h x (inl refl) k)))
+      (λ k. rw (k, first)
+      (first-is t xs a (⊎-elim (λ (p : a ≡ x). not-both (sym (ap t p) ∙ e) k) (λ (j : In a xs). j) i) e (λ b j l. h b (inr j) l)))
+
+pub every-append : {A : Type 0} (t : A → Bool) (xs ys : List A) → every t xs ≡ true → every t ys ≡ true → every t (xs ++ ys) ≡ true
+every-append t [] ys p q = q
+every-append t (x ∷ xs) ys p q =
+    by-cases (t x)
+    (λ e. rw (e, every) (every-append t xs ys (rw (e, every) at p) q))
+    (λ e. absurd (false≢true (rw (e, every) at p)))
+
+pub every-replicate : {A : Type 0} (t : A → Bool) (k : ℕ) (a : A) → t a ≡ true → every t (replicate k a) ≡ true
+every-replicate t zero a e = refl
+every-replicate t (suc k) a e = rw (e, every) (every-replicate t k a e)

@@ -1,15 +1,15 @@
 -- How a field reads, by the run of bytes that may stand in a name and the bytes behind it. Assumes nothing.
 use mathlib.Core.Path.{_≡_, refl, sym, ap, _∙_, subst}
 use mathlib.Core.Bool.{Bool, true, false, not, _&&_, false≢true}
-use mathlib.Core.List.{List, [], _∷_}
-use Prim.Native.Nat.{ℕ, suc, _+_, _-_, _<_, _≤_}
+use mathlib.Core.List.{List, [], _∷_, _++_}
+use Prim.Native.Nat.{ℕ, zero, suc, _+_, _-_, _<_, _≤_}
 use native.Mathlib.Omega.{arith}
 use native.Mathlib.Nat.{add-sub-cancel-left}
-use lib.ListN.{length, getD, take, drop, drop-of-length-le, length-drop}
-use lib.Seq.{take-all}
+use lib.ListN.{length, getD, take, drop, replicate, drop-of-length-le, length-drop}
+use lib.Seq.{take-all, drop-append-seam}
 use lib.Dec.{eqb}
 use borrow.Author.Tests.{eq-eqb, ne-eqb, eqb-true, eqb-false}
-use Rattle.names.specs.Lists.{every, keepWhile, same}
+use Rattle.names.specs.Lists.{every, keepWhile, same, padded}
 use Rattle.names.specs.Names.{isLetter, isDigit, underscore, isFirst, isOther, nonZero, areNameCharacters, text, isBlank, isName, isNameOrBlank, fieldOf, optionalOf, fieldAt}
 use Rattle.names.specs.declared.Field.{Field}
 use Rattle.names.specs.declared.Field.the-variants.{Name, Blank, Neither}
@@ -18,8 +18,8 @@ use types.Run.{OneOf, miss}
 use denote.Enum.Declared.{tagOf}
 use Rattle.names.proofs.Field.{the-type}
 use Rattle.names.specs.Runs.{Run}
-use Rattle.names.proofs.Tests.{by-cases, not-both}
-use Rattle.names.proofs.Lists.{at-cons, every-on, every-off, while-on, while-off, take-while}
+use Rattle.names.proofs.Tests.{by-cases, not-both, and-left, and-right, both}
+use Rattle.names.proofs.Lists.{at-cons, every-on, every-off, while-on, while-off, take-while, every-append, every-replicate}
 use Rattle.names.proofs.Runs.{run-is}
 
 -- ---- zeros
@@ -195,7 +195,7 @@ optional-named f {n} e =
     (λ h. by-cases (isBlank f) (λ b. let k : Name n ≡ Blank = rw (h, b) at e in let z : _≡_ {A = ℕ} 0 1 = cc in absurd (omega arith))
     (λ b. let k : Name n ≡ Neither = rw (h, b) at e in let z : _≡_ {A = ℕ} 0 1 = cc in absurd (omega arith)))
 
-blank-text : (f : List ℕ) → isBlank f ≡ true → text f ≡ []
+pub blank-text : (f : List ℕ) → isBlank f ≡ true → text f ≡ []
 unfolding isBlank text
 blank-text [] e = refl
 blank-text (x ∷ xs) e =
@@ -252,3 +252,71 @@ is-not-optional f e =
 pub field-is : (w : ℕ) (t : List ℕ) (at : ℕ) → take (at + w - at) (drop at t) ≡ fieldAt w t at
 unfolding fieldAt
 field-is w t at = ap (λ (n : ℕ). take n (drop at t)) (add-sub-cancel-left at w)
+
+-- ---- characters: a name has one, and a blank has none
+pub name-not-blank : (f : List ℕ) → isName f ≡ true → isBlank f ≡ false
+unfolding isName areNameCharacters
+name-not-blank f e =
+    by-cases (isBlank f)
+    (λ h. absurd (false≢true (rw (blank-text f h) at (and-left (areNameCharacters (text f)) _ e))))
+    (λ h. h)
+
+pub some-character : (n : List ℕ) → areNameCharacters n ≡ true → 1 ≤ length n
+unfolding areNameCharacters
+some-character [] e = absurd (false≢true e)
+some-character (x ∷ n) e = omega arith
+
+pub name-characters : (f : List ℕ) → isName f ≡ true → areNameCharacters (text f) ≡ true
+unfolding isName
+name-characters f e = and-left (areNameCharacters (text f)) _ e
+
+-- ---- names of several parts, and padded names
+pub underscore-other : isOther underscore ≡ true
+unfolding isOther isFirst isLetter isDigit underscore
+underscore-other = refl
+
+-- the characters of a name may stand in any place but the first
+pub characters-others : (n : List ℕ) → areNameCharacters n ≡ true → every isOther n ≡ true
+unfolding areNameCharacters
+characters-others [] e = absurd (false≢true e)
+characters-others (x ∷ n) e = rw (first-other x (and-left (isFirst x) (every isOther n) e), every) (and-right (isFirst x) (every isOther n) e)
+
+pub characters-append : (n ys : List ℕ) → areNameCharacters n ≡ true → every isOther ys ≡ true → areNameCharacters (n ++ ys) ≡ true
+unfolding areNameCharacters
+characters-append [] ys e h = absurd (false≢true e)
+characters-append (x ∷ n) ys e h =
+    both (and-left (isFirst x) (every isOther n) e) (every-append isOther n ys (and-right (isFirst x) (every isOther n) e) h)
+
+-- a padded name without its padding
+zeros-text : (k : ℕ) → text (replicate k 0) ≡ []
+unfolding text nonZero
+zeros-text zero = refl
+zeros-text (suc k) = refl
+
+text-append : (n ys : List ℕ) → every isOther n ≡ true → text ys ≡ [] → text (n ++ ys) ≡ n
+unfolding text
+text-append [] ys e h = h
+text-append (x ∷ n) ys e h =
+    by-cases (isOther x)
+    (λ k.
+    while-on nonZero x (n ++ ys) (no-pad (other-some x k))
+    ∙ ap (λ (l : List ℕ). x ∷ l) (text-append n ys (rw (k, every) at e) h))
+    (λ k. absurd (false≢true (rw (k, every) at e)))
+
+pub text-padded : (w : ℕ) (n : List ℕ) → areNameCharacters n ≡ true → text (padded w n) ≡ n
+unfolding padded
+text-padded w n e = text-append n (replicate (w - length n) 0) (characters-others n e) (zeros-text (w - length n))
+
+-- zeros are a blank, and a padded name is a name
+pub blank-padded : (w : ℕ) → isBlank (padded w []) ≡ true
+unfolding isBlank padded
+blank-padded w = every-replicate (eqb 0) (w - 0) 0 refl
+
+padding-of : (w : ℕ) (n : List ℕ) → drop (length n) (padded w n) ≡ replicate (w - length n) 0
+unfolding padded
+padding-of w n = drop-append-seam n (replicate (w - length n) 0)
+
+pub name-padded : (w : ℕ) (n : List ℕ) → areNameCharacters n ≡ true → isName (padded w n) ≡ true
+unfolding isName isBlank
+name-padded w n e =
+    rw (text-padded w n e) (both e (ap (every (eqb 0)) (padding-of w n) ∙ every-replicate (eqb 0) (w - length n) 0 refl))

@@ -53,6 +53,10 @@ pub or-none-right : (a b : Bool) → a || b ≡ false → b ≡ false
 or-none-right true b e = absurd (true≢false e)
 or-none-right false b e = e
 
+pub and-false : (b : Bool) → b && false ≡ false
+and-false true = refl
+and-false false = refl
+
 -- ---- options
 pub by-option : {A X : Type 0} (o : Option A) → (o ≡ none → X) → ((a : A) → o ≡ some a → X) → X
 by-option none f g = f refl
@@ -71,6 +75,10 @@ some-map f (some a) b e = (a, refl, sym (the-some e))
 pub isSome-map : {A B : Type 0} (f : A → B) (o : Option A) → isSome (Option·map f o) ≡ isSome o
 isSome-map f none = refl
 isSome-map f (some a) = refl
+
+pub is-some : {A : Type 0} (o : Option A) → isSome o ≡ true → (a : A) × (o ≡ some a)
+is-some none e = absurd (false≢true e)
+is-some (some a) e = (a, refl)
 
 -- ---- numbers
 pub apart : {p q : ℕ} → p ≤ q → (p ≡ q → ⊥) → p < q

@@ -59,6 +59,14 @@ module _ {A : Type 0} where
   holds t none = false
   holds t (some x) = t x
 
+module _ {A : Type 0} (R : ℕ → A → Type 0) where
+  -- the members at each position of both are so related
+  abbrev pub Pointwise : List ℕ → List A → Type 0
+  Pointwise [] [] = Unit {0}
+  Pointwise [] (x ∷ xs) = ⊥
+  Pointwise (p ∷ ps) [] = ⊥
+  Pointwise (p ∷ ps) (x ∷ xs) = R p x × Pointwise ps xs
+
 -- the same list
 abbrev pub same : List ℕ → List ℕ → Bool
 same [] [] = true

@@ -14,7 +14,7 @@ use Rattle.names.specs.Lists.{In, keep, same}
 use Rattle.names.specs.Names.{text, fieldAt, isBlank, nonZero}
 use Rattle.names.proofs.Tests.{by-cases, by-option, and-right, not-none}
 use Rattle.names.proofs.Lists.{in-keep, keep-in, some-first, last-in, same-true, while-length}
-use Rattle.names.proofs.More.{Rising, keep-rising, last-greatest}
+use Rattle.names.proofs.ListOrder.{Rising, keep-rising, last-greatest}
 use Rattle.recipe.specs.Records.{Recipe, places, placesFrom, isReadable, isModel, isElement, isPort, isSubmodel, field, firstField, name, modelField}
 use Rattle.recipe.specs.Definitions.{main, definitions, holder, recordsOf, elements, submodels, ports, named, definitionNamed, elementNamed, submodelNamed, portNamed, modelOf, elementIn}
 use Rattle.recipe.proofs.Reading.{first-model, places-rise}

@@ -11,8 +11,7 @@ use lib.Dec.{eqb}
 use borrow.Author.Tests.{eqb-true, eqb-false, eq-eqb}
 use Rattle.names.specs.Lists.{In}
 use Rattle.names.proofs.Tests.{by-cases, both-ways, or-left, or-right, or-cases}
-use Rattle.names.proofs.Lists.{any-in}
-use Rattle.names.proofs.More.{any-some, without, without-shorter, without-in}
+use Rattle.names.proofs.Lists.{any-in, any-some, without, without-shorter, without-in}
 use Rattle.recipe.specs.Records.{Recipe}
 use Rattle.recipe.specs.Definitions.{definitions, submodels, modelOf}
 use Rattle.recipe.specs.Reaching.{reachesIn, reaches, Reach, direct, onward}

@@ -11,8 +11,8 @@ use lib.ListN.{length, List·getD-eq-default}
 use lib.Dec.{leb, ltb}
 use borrow.Author.Tests.{ltb-false, leb-true, lt-leb, le-leb, eq-eqb, ne-eqb}
 use Rattle.names.specs.Lists.{In, first}
-use Rattle.names.proofs.Tests.{by-cases, not-none, and-left, and-right, or-cases}
-use Rattle.names.proofs.More.{and-false, Rising, rising-from, first-lowest}
+use Rattle.names.proofs.Tests.{by-cases, not-none, and-left, and-right, or-cases, and-false}
+use Rattle.names.proofs.ListOrder.{Rising, rising-from, first-lowest}
 use Rattle.recipe.specs.Records.{Recipe, isKnown, kind, isModel, recordLength, next, isReadable, placesFrom, stopFrom, places, stop}
 use Rattle.recipe.specs.Reading.{fault₂}
 

@@ -11,9 +11,9 @@ use lib.Dec.{eqb, ltb}
 use borrow.Author.Tests.{eqb-true, eqb-false, ltb-true, lt-ltb, eq-eqb, not-true, not-false}
 use Rattle.names.specs.Lists.{In, any, isSome, lastOr, same}
 use Rattle.names.specs.Names.{text, isBlank, isName, isNameOrBlank, areNameCharacters, underscore}
-use Rattle.names.proofs.Tests.{by-option, not-both, not-none, three, and-left, and-right, both, or-left, or-right, or-cases, or-none-left, or-none-right}
+use Rattle.names.proofs.Tests.{by-option, not-both, not-none, three, and-left, and-right, both, or-left, or-right, or-cases, or-none-left, or-none-right, is-some}
 use Rattle.names.proofs.Lists.{none-first, not-any, same-refl}
-use Rattle.names.proofs.More.{is-some, name-not-blank, name-characters, some-character}
+use Rattle.names.proofs.Names.{name-not-blank, name-characters, some-character}
 use Rattle.flat_table.specs.Classes.{isClass, parentAllowed}
 use Rattle.recipe.specs.Records.{Recipe, kind, places, isModel, isElement, isPort, isSubmodel, isDeletion, isReplacement, isReplacedBy, isMark, firstField, name, class, parentField, referenceField, submodelField, way, targetField}
 use Rattle.recipe.specs.Definitions.{definitions, holder, elements, submodels, isDeclared, elementNamed, ownerOf, elementIn}

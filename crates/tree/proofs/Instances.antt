@@ -12,8 +12,7 @@ use lib.Dec.{ltb}
 use borrow.Author.Tests.{ltb-false}
 use Rattle.names.specs.Lists.{In, any, joined}
 use Rattle.names.proofs.Tests.{or-none-left, or-none-right}
-use Rattle.names.proofs.Lists.{not-any, in-map, map-in, in-joined, joined-in}
-use Rattle.names.proofs.More.{empty, map-same}
+use Rattle.names.proofs.Lists.{not-any, in-map, map-in, in-joined, joined-in, empty, map-same}
 use Rattle.flat_table.specs.Table.{mostRows}
 use Rattle.recipe.specs.Records.{Recipe}
 use Rattle.recipe.specs.Definitions.{main, submodels, modelOf}

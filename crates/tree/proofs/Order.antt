@@ -9,7 +9,7 @@ use mathlib.Core.List.{List, [], _∷_, map}
 use lib.Dec.{eqb}
 use Rattle.names.specs.Lists.{In, keep}
 use Rattle.names.proofs.Lists.{in-keep, in-map, map-in, in-joined}
-use Rattle.names.proofs.More.{Earlier, earlier-keep, keep-earlier, earlier-joined, Within, Across, joined-earlier, earlier-map, map-earlier, earlier-less, less-earlier}
+use Rattle.names.proofs.ListOrder.{Earlier, earlier-keep, keep-earlier, earlier-joined, Within, Across, joined-earlier, earlier-map, map-earlier, earlier-less, less-earlier}
 use Rattle.recipe.specs.Records.{Recipe, places, isModel, isElement, isSubmodel}
 use Rattle.recipe.specs.Definitions.{main, holder, recordsOf, submodels, modelOf}
 use Rattle.recipe.proofs.Reading.{places-rise}

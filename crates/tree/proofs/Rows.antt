@@ -8,9 +8,8 @@ use mathlib.Core.Option.{none, some}
 use lib.Dec.{eqb}
 use borrow.Author.Tests.{eqb-true, not-false}
 use Rattle.names.specs.Lists.{In, isSome}
-use Rattle.names.proofs.Tests.{and-none, or-left, or-right}
+use Rattle.names.proofs.Tests.{and-none, or-left, or-right, is-some}
 use Rattle.names.proofs.Lists.{none-first}
-use Rattle.names.proofs.More.{is-some}
 use Rattle.recipe.specs.Records.{Recipe, places, isPort, isMark, isReplacement, isReplacedBy, class}
 use Rattle.recipe.specs.Definitions.{ownerOf}
 use Rattle.tree.specs.Tree.{Node, target}

@@ -11,7 +11,7 @@ use lib.Dec.{eqb}
 use Rattle.names.specs.Lists.{In}
 use Rattle.names.specs.Names.{text, isBlank}
 use Rattle.names.proofs.Tests.{by-cases, by-option, not-none, some-map}
-use Rattle.names.proofs.More.{without, without-shorter, without-in}
+use Rattle.names.proofs.Lists.{without, without-shorter, without-in}
 use Rattle.recipe.specs.Records.{Recipe, places, submodelField, targetField, way}
 use Rattle.recipe.specs.Definitions.{definitions, holder, elements, submodels, ports, elementNamed, submodelNamed, portNamed, modelOf}
 use Rattle.recipe.specs.Reaching.{Reach, direct, onward}

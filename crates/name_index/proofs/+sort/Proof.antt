@@ -3,7 +3,7 @@
 use denote.Ref.{now}
 use Rattle.name_index.proofs.runs_overlap.Reads as runs-overlap-reads
 use Rattle.name_index.proofs.merge_back.Reads as merge-back-reads
-use Prim.Native.Nat.{_/_}
+use Prim.Native.Nat.{_/_, ℕ, _<_}
 use mathlib.Core.Path.{sym, _∙_}
 use native.Mathlib.Omega.{arith}
 use borrow.Author.Needs.{needs}
@@ -11,7 +11,6 @@ use borrow.Author.Tests.{not-true}
 use lib.ListN.{length}
 use lib.Seq.{length-take-le}
 use Rattle.name_index.proofs.Merging.{sorted-one, sorted-none, halves-length, halves-below, halves-in-order, halves-sorted}
-use Prim.Native.Nat.{ℕ, _<_}
 use borrow.Fn.Kinds.{In}
 use borrow.Fn.PlainCycle.{Measures, is, falls, and}
 use Rattle.name_index.proofs.sort.Reads as sort

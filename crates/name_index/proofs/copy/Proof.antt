@@ -1,12 +1,11 @@
 -- `name_index::copy` meets its contract: the invariant: the first i places are those of the source.
 -- Assumes nothing.
 use mathlib.Core.List.{_++_}
-use lib.ListN.{length-set}
+use lib.ListN.{length-set, length, drop, take}
 use Rattle.name_index.proofs.Merging.{copy-more, copy-done}
 use mathlib.Core.Path.{_≡_, refl, _∙_}
 use Prim.Native.Nat.{_≤_, _<_, _-_, _+_}
 use native.Mathlib.Omega.{arith}
-use lib.ListN.{length, drop, take}
 use Rattle.name_index.proofs.copy.Statement.{statement}
 use Rattle.name_index.proofs.copy.Tie as tie
 
