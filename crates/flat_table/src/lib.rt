@@ -1,5 +1,5 @@
 // The flat table and its check: 01's refusals 14 to 17. It stands beneath the composer and knows nothing of recipes.
-// Public call: bandrolt_check_table, exported to C. It requires nothing.
+// Public calls, which require nothing: bandrolt_check_table, exported to C; is_class, for the floors above.
 ghost use mathlib.Core.Path.{_≡_};
 ghost use mathlib.Core.Option.{none, some};
 ghost use Prim.Native.Nat.{_+_, _*_, _≤_, _<_};
@@ -24,7 +24,7 @@ pub struct TableAnswer {
     pub count: u64,
 }
 
-fn is_class(b: u8) -> bool
+pub fn is_class(b: u8) -> bool
     ensures { λ r. ⌜ r ≡ isClass b ⌝ }
 {
     (1 <= b) & (b <= 7)

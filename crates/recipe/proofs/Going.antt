@@ -7,10 +7,10 @@ use native.Mathlib.Omega.{arith}
 use mathlib.Core.Bool.{Bool, true, false}
 use mathlib.Core.Option.{none, some}
 use mathlib.Core.List.{[], _∷_}
-use lib.ListN.{length}
+use lib.ListN.{length, getD}
 use Rattle.names.specs.Lists.{In, first}
 use Rattle.names.proofs.Tests.{by-cases}
-use Rattle.recipe.specs.Records.{Recipe, next, isReadable, placesFrom, stopFrom, places, stop}
+use Rattle.recipe.specs.Records.{Recipe, kind, recordLength, next, isReadable, placesFrom, stopFrom, places, stop}
 use Rattle.recipe.proofs.Reading.{readable-fits, next-more, unread}
 
 -- at p, a place or the end: the tries left, and what is left to scan
@@ -76,3 +76,16 @@ none-past s (suc n) p l = rw (unread s p l, placesFrom)
 -- the end: none passes
 pub going-end : {s : Recipe} {t : ℕ → Bool} {p : ℕ} → Going s t p → length (s .bytes) ≤ p → first t (places s) ≡ none
 going-end {s} {t} {p} g l = g .rest ∙ ap (first t) (none-past s (g .tries) p l)
+
+-- the record's length is that of its kind: what is left behind it, within the recipe
+pub going-on : {s : Recipe} {t : ℕ → Bool} {p n : ℕ} → Here s t p → t p ≡ false → n ≡ recordLength (s .width) (getD (s .bytes) p 0) → Going s t (p + n)
+unfolding next kind
+going-on {s} {t} {p} {n} h e l = rw l (going-more h e)
+
+pub on-fits : {s : Recipe} {t : ℕ → Bool} {p n : ℕ} → Here s t p → n ≡ recordLength (s .width) (getD (s .bytes) p 0) → p + n ≤ length (s .bytes)
+unfolding next kind
+on-fits {s} {t} {p} {n} h l = rw l (here-fits h)
+
+pub on-more : (w k : ℕ) {n : ℕ} → n ≡ recordLength w k → 1 ≤ n
+unfolding recordLength
+on-more w k {n} l = omega arith

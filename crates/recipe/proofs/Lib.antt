@@ -5,3 +5,4 @@ pub mod Going
 pub mod Definitions
 pub mod Reaching
 pub mod Rows
+pub mod Fields

@@ -3,3 +3,4 @@ pub mod Records
 pub mod Definitions
 pub mod Reaching
 pub mod Reading
+pub mod Fields

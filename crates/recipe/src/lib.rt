@@ -1,9 +1,80 @@
 // Recipes: their records and definitions, and the refusals 1 to 6.
-// For the floors above: record_length, is_readable, reading_stop. They take the name width w, which is 12.
+// For the floors above: record_length, is_readable, reading_stop, read_record, first_unformed. They take the name width w, which is 12.
 ghost use mathlib.Core.Path.{_≡_};
-ghost use Prim.Native.Nat.{_≤_};
+ghost use mathlib.Core.Bool.{true};
+ghost use Prim.Native.Nat.{_+_, _*_, _≤_};
 ghost use lib.ListN.{length};
-ghost use Rattle.recipe.specs.Records.{Recipe, recordLength, isReadable, stop};
+ghost use Rattle.names.specs.Names.{fieldOf, optionalOf};
+ghost use Rattle.names.specs.Scans.{foundOf};
+ghost use Rattle.recipe.specs.Records.{Recipe, recordLength, isReadable, stop, field};
+ghost use Rattle.recipe.specs.Reading.{fault₃};
+ghost use Rattle.recipe.specs.Fields.{TargetAt, RecordAt, targetReading, markReading, readingOf};
+use names::Field;
+use names::Found;
+use names::Optional;
+
+// How a target is named: by element name or by port name, with the offset of that name in the recipe.
+pub enum Way {
+    ByElement(usize),
+    ByPort(usize),
+}
+
+// What a way byte and the name behind it read as.
+pub enum Target {
+    Named(Way),
+    Unnamed,
+}
+
+// The fields of an element: their offsets, and the class.
+pub struct ElementFields {
+    pub name: usize,
+    pub class: u8,
+    pub parent: usize,
+    pub reference: usize,
+}
+
+// The fields of a port.
+pub struct PortFields {
+    pub name: usize,
+    pub submodel: usize,
+    pub target: Way,
+}
+
+// The fields of a submodel.
+pub struct SubmodelFields {
+    pub name: usize,
+    pub model: usize,
+}
+
+// The fields of a mark. A deletion's owner is its submodel.
+pub struct Mark {
+    pub owner: usize,
+    pub submodel: usize,
+    pub target: Way,
+}
+
+// What the fields of a mark read as.
+pub enum Marked {
+    Marks(Mark),
+    Unmarked,
+}
+
+// A record, by its kind.
+pub enum Record {
+    Model(usize),
+    Element(ElementFields),
+    Port(PortFields),
+    Submodel(SubmodelFields),
+    Deletion(Mark),
+    Replacement(Mark),
+    ReplacedBy(Mark),
+}
+
+// What a record reads as: itself, or it is refused by row 3.
+pub enum Read {
+    As(Record),
+    Refused,
+}
 
 // The bytes of a record of kind k, with its kind byte.
 pub fn record_length(k: u8, w: usize) -> usize
@@ -54,4 +125,187 @@ pub fn reading_stop(s: &[u8], w: usize) -> usize
         p += record_length(s[p], w);
     }
     p
+}
+
+// What the name field k bytes into the body of the record at p reads as.
+fn field_at(s: &[u8], w: usize, p: usize, k: usize) -> Field
+    requires { ⌜ p + 1 + k + w ≤ length (now s) ⌝ }
+    ensures { λ r. ⌜ r ≡ fieldOf (field (record { width = w; bytes = now (s .entry) }) p k) ⌝ }
+{
+    let at = p + 1 + k;
+    let end = at + w;
+    names::read_field(&s[at..end])
+}
+
+// What that field reads as, where it may be blank.
+fn optional_at(s: &[u8], w: usize, p: usize, k: usize) -> Optional
+    requires { ⌜ p + 1 + k + w ≤ length (now s) ⌝ }
+    ensures { λ r. ⌜ r ≡ optionalOf (field (record { width = w; bytes = now (s .entry) }) p k) ⌝ }
+{
+    let at = p + 1 + k;
+    let end = at + w;
+    names::read_optional(&s[at..end])
+}
+
+// The way and the target of the port or mark at p, whose submodel begins k bytes into its body.
+fn read_target(s: &[u8], w: usize, p: usize, k: usize) -> Target
+    requires { ⌜ TargetAt (record { width = w; bytes = now s }) p k ⌝ }
+    ensures { λ r. ⌜ r ≡ targetReading (record { width = w; bytes = now (s .entry) }) p ⌝ }
+{
+    let b = s[p + 1 + (k + w)];
+    if b > 1 {
+        return Target::Unnamed;
+    }
+    let Field::Name(_) = field_at(s, w, p, k + w + 1) else {
+        return Target::Unnamed;
+    };
+    let at = p + 1 + (k + w + 1);
+    if b == 0 {
+        return Target::Named(Way::ByElement(at));
+    }
+    Target::Named(Way::ByPort(at))
+}
+
+fn read_model(s: &[u8], w: usize, p: usize) -> Read
+    requires { ⌜ RecordAt (record { width = w; bytes = now s }) p 1 (1 + w) ⌝ }
+    ensures { λ r. ⌜ r ≡ readingOf (record { width = w; bytes = now (s .entry) }) p ⌝ }
+{
+    let Field::Name(_) = field_at(s, w, p, 0) else {
+        return Read::Refused;
+    };
+    Read::As(Record::Model(p + 1))
+}
+
+fn read_element(s: &[u8], w: usize, p: usize) -> Read
+    requires { ⌜ RecordAt (record { width = w; bytes = now s }) p 2 (2 + 3 * w) ⌝ }
+    ensures { λ r. ⌜ r ≡ readingOf (record { width = w; bytes = now (s .entry) }) p ⌝ }
+{
+    let Field::Name(_) = field_at(s, w, p, 0) else {
+        return Read::Refused;
+    };
+    let class = s[p + 1 + w];
+    if !flat_table::is_class(class) {
+        return Read::Refused;
+    }
+    let Optional::Holds(_) = optional_at(s, w, p, w + 1) else {
+        return Read::Refused;
+    };
+    let Optional::Holds(_) = optional_at(s, w, p, 2 * w + 1) else {
+        return Read::Refused;
+    };
+    Read::As(Record::Element(ElementFields {
+        name: p + 1,
+        class: class,
+        parent: p + 1 + (w + 1),
+        reference: p + 1 + (2 * w + 1),
+    }))
+}
+
+fn read_port(s: &[u8], w: usize, p: usize) -> Read
+    requires { ⌜ RecordAt (record { width = w; bytes = now s }) p 3 (2 + 3 * w) ⌝ }
+    ensures { λ r. ⌜ r ≡ readingOf (record { width = w; bytes = now (s .entry) }) p ⌝ }
+{
+    let Field::Name(_) = field_at(s, w, p, 0) else {
+        return Read::Refused;
+    };
+    let Optional::Holds(_) = optional_at(s, w, p, w) else {
+        return Read::Refused;
+    };
+    let Target::Named(way) = read_target(s, w, p, w) else {
+        return Read::Refused;
+    };
+    Read::As(Record::Port(PortFields {
+        name: p + 1,
+        submodel: p + 1 + w,
+        target: way,
+    }))
+}
+
+// A submodel, whose name may not end with an underscore.
+fn read_submodel(s: &[u8], w: usize, p: usize) -> Read
+    requires { ⌜ RecordAt (record { width = w; bytes = now s }) p 4 (1 + 2 * w) ⌝ }
+    ensures { λ r. ⌜ r ≡ readingOf (record { width = w; bytes = now (s .entry) }) p ⌝ }
+{
+    let Field::Name(n) = field_at(s, w, p, 0) else {
+        return Read::Refused;
+    };
+    if s[p + n] == 95 {
+        return Read::Refused;
+    }
+    let Field::Name(_) = field_at(s, w, p, w) else {
+        return Read::Refused;
+    };
+    Read::As(Record::Submodel(SubmodelFields {
+        name: p + 1,
+        model: p + 1 + w,
+    }))
+}
+
+// The mark at p, whose submodel begins k bytes into its body.
+fn read_mark(s: &[u8], w: usize, p: usize, k: usize) -> Marked
+    requires { ⌜ TargetAt (record { width = w; bytes = now s }) p k ⌝ }
+    ensures { λ r. ⌜ r ≡ markReading (record { width = w; bytes = now (s .entry) }) p ⌝ }
+{
+    let Field::Name(_) = field_at(s, w, p, 0) else {
+        return Marked::Unmarked;
+    };
+    let Field::Name(_) = field_at(s, w, p, k) else {
+        return Marked::Unmarked;
+    };
+    let Target::Named(way) = read_target(s, w, p, k) else {
+        return Marked::Unmarked;
+    };
+    Marked::Marks(Mark {
+        owner: p + 1,
+        submodel: p + 1 + k,
+        target: way,
+    })
+}
+
+// The record at p, which row 2 does not refuse.
+pub fn read_record(s: &[u8], w: usize, p: usize) -> Read
+    requires { ⌜ isReadable (record { width = w; bytes = now s }) p ≡ true ⌝ }
+    ensures { λ r. ⌜ r ≡ readingOf (record { width = w; bytes = now (s .entry) }) p ⌝ }
+{
+    let k = s[p];
+    if k == 1 {
+        return read_model(s, w, p);
+    }
+    if k == 2 {
+        return read_element(s, w, p);
+    }
+    if k == 3 {
+        return read_port(s, w, p);
+    }
+    if k == 4 {
+        return read_submodel(s, w, p);
+    }
+    if k == 5 {
+        let Marked::Marks(m) = read_mark(s, w, p, 0) else {
+            return Read::Refused;
+        };
+        return Read::As(Record::Deletion(m));
+    }
+    let Marked::Marks(m) = read_mark(s, w, p, w) else {
+        return Read::Refused;
+    };
+    if k == 6 {
+        return Read::As(Record::Replacement(m));
+    }
+    Read::As(Record::ReplacedBy(m))
+}
+
+// The first record that row 3 refuses.
+pub fn first_unformed(s: &[u8], w: usize) -> Found
+    requires { ⌜ (w ≤ 65536) × (stop (record { width = w; bytes = now s }) ≡ length (now s)) ⌝ }
+    ensures { λ r. ⌜ r ≡ foundOf (fault₃ (record { width = w; bytes = now (s .entry) })) ⌝ }
+{
+    let mut p = 0;
+    while p < s.len() {
+        let Read::As(_) = read_record(s, w, p) else {
+            return Found::At(p);
+        };
+        p += record_length(s[p], w);
+    }
+    Found::Nothing
 }

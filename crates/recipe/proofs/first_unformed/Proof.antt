@@ -1,0 +1,73 @@
+-- `recipe::first_unformed` meets its contract: the invariant: what is left to scan from p on.
+-- Assumes nothing.
+use mathlib.Core.Path.{sym, _∙_}
+use Prim.Native.Nat.{_-_, _≤_}
+use mathlib.Core.Bool.{not}
+use native.Mathlib.Omega.{arith}
+use lib.ListN.{length}
+use borrow.Author.Needs.{needs}
+use Rattle.names.proofs.Scans.{at-found, nothing-found}
+use Rattle.recipe.specs.Reading.{isForm}
+use Rattle.recipe.proofs.Going.{Going, here, going-start, going-hit, going-on, on-fits, on-more, going-end}
+use Rattle.recipe.proofs.Fields.{read-form, refused-form, fault-3}
+use Rattle.recipe.proofs.first_unformed.Statement.{statement}
+use Rattle.recipe.proofs.first_unformed.Tie as tie
+use Rattle.recipe.proofs.read_record.Reads as read-record-reads
+use Rattle.recipe.proofs.record_length.Reads as record-length-reads
+
+abbrev Inv-loop : tie.InvT-loop
+Inv-loop s w p₀ p = Going (record { width = w; bytes = s }) (λ q. not (isForm (record { width = w; bytes = s }) q)) p × (p ≤ length s)
+
+abbrev μ-loop : tie.MeasureT-loop
+μ-loop s w p₀ p = length s - p
+
+loop-holds : tie.Need-loop-holds Inv-loop μ-loop
+loop-holds c = (going-start _ _, omega arith)
+
+read-record-requires : tie.Need-read-record-requires Inv-loop μ-loop
+read-record-requires c κs = here _ _ _ (c .before .before .before .pre .1) (c .before .loop .inv .0) (c .loop-test .taken) .readable
+
+enum-told : tie.Need-enum-told Inv-loop μ-loop
+enum-told c = search needs
+
+enum-told-2 : tie.Need-enum-told-2 Inv-loop μ-loop
+enum-told-2 c = search needs
+
+returns : tie.Need-returns Inv-loop μ-loop
+returns c = at-found (fault-3 _ ∙ going-hit (here _ _ _ (c .before .before .before .before .before .before .pre .1) (c .before .before .before .before .loop .inv .0) (c .before .before .before .loop-test .taken)) (refused-form _ _ (sym (c .enum-told2 .given .1) ∙ c .before .before .read-record .ensures)))
+
+shared-slice-read-record-length : tie.Need-shared-slice-read-record-length Inv-loop μ-loop
+shared-slice-read-record-length c = c .before .before .before .before .loop-test .taken
+
+record-length-requires : tie.Need-record-length-requires Inv-loop μ-loop
+record-length-requires c κs = c .before .before .before .before .before .before .before .pre .0
+
+add-p : tie.Need-add-p Inv-loop μ-loop
+add-p c = omega (arith, on-fits (here _ _ _ (c .before .before .before .before .before .before .before .before .pre .1) (c .before .before .before .before .before .before .loop .inv .0) (c .before .before .before .before .before .loop-test .taken)) (c .record-length .ensures))
+
+loop-less : tie.Need-loop-less Inv-loop μ-loop
+loop-less c = omega (arith, on-fits (here _ _ _ (c .before .before .before .before .before .before .before .before .pre .1) (c .before .before .before .before .before .before .loop .inv .0) (c .before .before .before .before .before .loop-test .taken)) (c .record-length .ensures), on-more _ _ (c .record-length .ensures))
+
+loop-again : tie.Need-loop-again Inv-loop μ-loop
+loop-again c = (going-on (here _ _ _ (c .before .before .before .before .before .before .before .before .pre .1) (c .before .before .before .before .before .before .loop .inv .0) (c .before .before .before .before .before .loop-test .taken)) (read-form _ _ (sym (c .before .before .enum-told .given .1) ∙ c .before .before .before .before .read-record .ensures)) (c .record-length .ensures), on-fits (here _ _ _ (c .before .before .before .before .before .before .before .before .pre .1) (c .before .before .before .before .before .before .loop .inv .0) (c .before .before .before .before .before .loop-test .taken)) (c .record-length .ensures))
+
+returns-2 : tie.Need-returns-2 Inv-loop μ-loop
+returns-2 c = nothing-found (fault-3 _ ∙ going-end (c .before .loop .inv .0) (c .loop-test .left))
+
+pub first-unformed-spec : {M : Type 1} → statement M
+first-unformed-spec =
+    tie.close
+    (tie.spec
+    Inv-loop
+    μ-loop
+    loop-holds
+    read-record-requires
+    enum-told
+    enum-told-2
+    returns
+    shared-slice-read-record-length
+    record-length-requires
+    add-p
+    loop-less
+    loop-again
+    returns-2)
