@@ -22,8 +22,8 @@ lib: tools-there
 	@for name in $(LIBRARIES); do rt staticlib $$name > target/lib.log 2>&1 || { cat target/lib.log; exit 1; }; done
 
 # The programs that the gate runs beside rt ci; each ends with 'N passed, M failed'.
-compare: lib
-	@$(CARGO) compare
+compare recipes: %: lib
+	@$(CARGO) $@
 
 solver stack: %: $(BUILD)/%
 	@$(BUILD)/$@
@@ -36,4 +36,4 @@ tools-there:
 	@for tool in rt gcc cargo; do command -v $$tool > /dev/null || { echo "bandrolt needs $$tool, which is not on this machine's PATH"; exit 1; }; done
 	@mkdir -p target
 
-.PHONY: run test bench lib compare solver stack tools-there
+.PHONY: run test bench lib compare recipes solver stack tools-there

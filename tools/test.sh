@@ -35,7 +35,8 @@ layout() {
 
 step "layout" layout
 step "proofs and must-fail edits" rt ci
-step "comparison with the other program" make --no-print-directory compare
+step "tables: the other program" make --no-print-directory compare
+step "recipes: the other program" make --no-print-directory recipes
 step "the solver, in C" make --no-print-directory solver
 step "stack" make --no-print-directory stack
 echo "$passed passed, $failed failed"

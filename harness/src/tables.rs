@@ -33,8 +33,9 @@ impl Record {
     }
 }
 
-pub fn field(name: &str) -> Field {
-    let mut field = BLANK;
+/// A name and its padding.
+pub fn field<const WIDTH: usize>(name: &str) -> [u8; WIDTH] {
+    let mut field = [0; WIDTH];
     field[..name.len()].copy_from_slice(name.as_bytes());
     field
 }
@@ -131,7 +132,7 @@ fn distinct_names(rows: usize, names: Names, random: &Random) -> Vec<Field> {
 }
 
 /// Random classes, but none that finds no parent or reference among the others.
-fn classes(rows: usize, random: &Random) -> Vec<u8> {
+pub fn classes(rows: usize, random: &Random) -> Vec<u8> {
     let mut classes = Vec::with_capacity(rows);
     for _ in 0..rows {
         let class = 1 + random.below(7) as u8;

@@ -5,31 +5,14 @@ use harness::bandrolt::{check_table, TableAnswer};
 use harness::other::rules::{self, Rules, MUTANTS};
 use harness::other::{table, RECORD};
 use harness::random::Random;
+use harness::report::{save, seed_from_clock, Tally};
 use harness::tables::{case, closed, encode, Links, Names, Record, MAX_RECORDS};
 use std::process::ExitCode;
-use std::time::{SystemTime, UNIX_EPOCH};
 
 const FIXED_SEED: u64 = 1;
 const CASES_OF_A_SEED: u64 = 20_000;
 const NUMBERS: [u64; 5] = [0, 14, 15, 16, 17];
 const LEAST_OF_A_NUMBER: usize = 500;
-
-#[derive(Default)]
-struct Tally {
-    passed: usize,
-    failed: usize,
-}
-
-impl Tally {
-    fn add(&mut self, what: &str, holds: bool) {
-        if holds {
-            self.passed += 1;
-        } else {
-            self.failed += 1;
-            println!("FAILED: {what}");
-        }
-    }
-}
 
 /// What the tables of one seed have shown.
 struct Outcome {
@@ -84,13 +67,7 @@ fn main() -> ExitCode {
         tally.add(what, told_by.len() == outcomes.len());
     }
 
-    println!("{} passed, {} failed", tally.passed, tally.failed);
-    ExitCode::from(u8::from(tally.failed > 0))
-}
-
-fn seed_from_clock() -> u64 {
-    let now = SystemTime::now().duration_since(UNIX_EPOCH);
-    now.map_or(0, |now| now.as_micros() as u64)
+    tally.end()
 }
 
 fn other_answer(table: &[u8]) -> TableAnswer {
@@ -130,20 +107,6 @@ fn run(seed: u64) -> Outcome {
         }
     }
     outcome
-}
-
-/// Saves a table in hexadecimal beside this program; `xxd -r -p` makes it a table again.
-fn save(table: &[u8], file_name: &str) {
-    let hex = |line: &[u8]| line.iter().map(|b| format!("{b:02x}")).collect::<String>() + "\n";
-    let dump: String = table.chunks(32).map(hex).collect();
-    let saved = std::env::current_exe().and_then(|program| {
-        let file = program.with_file_name(file_name);
-        std::fs::write(&file, dump).map(|()| file)
-    });
-    match saved {
-        Ok(file) => println!("the table is in {}", file.display()),
-        Err(error) => println!("the table could not be saved: {error}"),
-    }
 }
 
 /// The flat table of 01's sample R.

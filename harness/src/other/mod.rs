@@ -1,18 +1,27 @@
-//! The other program: the table check once more, written from document 01 alone.
-//! `table` is the program; `rules` is a slow one beside it whose rules can be bent.
+//! The other program: the table check and flattening once more, written from document 01 alone.
+//! `table` and `recipe` are the program; `rules` and `recipe::rules` are slow ones that can be bent.
 
+mod classes;
+pub mod recipe;
 pub mod rules;
 pub mod table;
 
 use crate::bandrolt::TableAnswer;
 
-/// The length of a name, parent or reference field.
+/// The length of a recipe's name field.
+pub const NAME: usize = 12;
+
+/// The length of a flat record's name, parent or reference field.
 pub const FIELD: usize = 68;
 
-/// The length of a record: its class and three fields.
+/// The length of a flat record: its class and three fields.
 pub const RECORD: usize = 1 + 3 * FIELD;
 
+/// The longest recipe.
+pub const MAX_RECIPE: usize = 16_384;
+
 /// A refusal's number, and the offset of the record it is about.
+#[derive(Clone, Copy, Debug, PartialEq, Eq)]
 pub struct Refusal {
     pub number: u64,
     pub place: usize,
@@ -43,4 +52,15 @@ impl From<Verdict> for TableAnswer {
             count: count as u64,
         }
     }
+}
+
+/// "The first character is a letter or underscore, the others letters, digits or underscores
+/// (ASCII)", then zero bytes. A blank field reads as the empty name.
+fn read_field<const WIDTH: usize>(field: &[u8]) -> Option<&[u8]> {
+    let length = field.iter().position(|&b| b == 0).unwrap_or(WIDTH);
+    let (name, padding) = field.split_at(length);
+    let starts_well = !name.first().is_some_and(u8::is_ascii_digit);
+    let goes_on_well = name.iter().all(|b| b.is_ascii_alphanumeric() || *b == b'_');
+    let is_padded = *padding == [0; WIDTH][length..];
+    (starts_well && goes_on_well && is_padded).then_some(name)
 }

@@ -204,7 +204,7 @@ fn field(record: &[u8], number: usize) -> &[u8] {
     &record[1 + number * FIELD..][..FIELD]
 }
 
-fn before_zero(field: &[u8]) -> &[u8] {
+pub fn before_zero(field: &[u8]) -> &[u8] {
     field.split(|&b| b == 0).next().unwrap_or_default()
 }
 

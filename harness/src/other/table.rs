@@ -1,23 +1,11 @@
 //! The other program: 01's table check as one would write it in Rust, with a hash map for names.
 //! It is what the library is compared with, and the benchmark's yardstick.
 
-use super::{Refusal, Verdict, FIELD, RECORD};
+use super::classes::{Class, Link};
+use super::{read_field, Refusal, Verdict, FIELD, RECORD};
 use std::collections::HashMap;
-use Class::*;
-use Link::*;
 
 const MAX_LENGTH: usize = 209_920;
-
-#[derive(Clone, Copy)]
-enum Class {
-    Compartment,
-    Species,
-    Parameter,
-    Reaction,
-    SpeciesReference,
-    RateRule,
-    LocalParameter,
-}
 
 /// A record's fields without their padding; a blank field is empty.
 struct Record<'a> {
@@ -25,13 +13,6 @@ struct Record<'a> {
     name: &'a [u8],
     parent: &'a [u8],
     reference: &'a [u8],
-}
-
-/// What a parent or reference field leads to.
-enum Link {
-    Blank,
-    To(Class),
-    Nowhere,
 }
 
 /// "A table is closed when none of 14 to 17 below applies."
@@ -63,14 +44,14 @@ pub fn check(table: &[u8]) -> Verdict {
     // 17, at the record: "parent against the class table or not an earlier record; reference
     // against the class table or not a record".
     let link = |name: &[u8], end: usize| match index_of.get(name) {
-        _ if name.is_empty() => Blank,
-        Some(&i) if i < end => To(records[i].class),
-        _ => Nowhere,
+        _ if name.is_empty() => Link::Blank,
+        Some(&i) if i < end => Link::To(records[i].class),
+        _ => Link::Nowhere,
     };
     for (i, record) in records.iter().enumerate() {
         let parent = link(record.parent, i);
         let reference = link(record.reference, records.len());
-        if !follows_class_table(record.class, parent, reference) {
+        if !(record.class.allows_parent(parent) && record.class.allows_reference(reference)) {
             return Err(Refusal::at_record(17, i));
         }
     }
@@ -79,49 +60,11 @@ pub fn check(table: &[u8]) -> Verdict {
 
 fn read_record(bytes: &[u8]) -> Option<Record<'_>> {
     let (class, fields) = bytes.split_first()?;
-    let mut fields = fields.chunks_exact(FIELD).map(read_field);
+    let mut fields = fields.chunks_exact(FIELD).map(read_field::<FIELD>);
     Some(Record {
-        class: read_class(*class)?,
+        class: Class::read(*class)?,
         name: fields.next()?.filter(|name| !name.is_empty())?,
         parent: fields.next()??,
         reference: fields.next()??,
     })
-}
-
-fn read_class(byte: u8) -> Option<Class> {
-    Some(match byte {
-        1 => Compartment,
-        2 => Species,
-        3 => Parameter,
-        4 => Reaction,
-        5 => SpeciesReference,
-        6 => RateRule,
-        7 => LocalParameter,
-        _ => return None,
-    })
-}
-
-/// "The first character is a letter or underscore, the others letters, digits or underscores
-/// (ASCII)", then zero bytes. A blank field reads as the empty name.
-fn read_field(field: &[u8]) -> Option<&[u8]> {
-    let length = field.iter().position(|&b| b == 0).unwrap_or(FIELD);
-    let (name, padding) = field.split_at(length);
-    let starts_well = !name.first().is_some_and(u8::is_ascii_digit);
-    let goes_on_well = name.iter().all(|b| b.is_ascii_alphanumeric() || *b == b'_');
-    let is_padded = *padding == [0; FIELD][length..];
-    (starts_well && goes_on_well && is_padded).then_some(name)
-}
-
-/// 01's class table.
-fn follows_class_table(class: Class, parent: Link, reference: Link) -> bool {
-    matches!(
-        (class, parent, reference),
-        (Compartment, Blank, Blank)
-            | (Species, Blank, To(Compartment))
-            | (Parameter, Blank, Blank)
-            | (Reaction, Blank, Blank | To(Compartment))
-            | (SpeciesReference, To(Reaction), To(Species))
-            | (RateRule, Blank, To(Compartment | Species | Parameter))
-            | (LocalParameter, To(Reaction), Blank)
-    )
 }

@@ -1,0 +1,314 @@
+//! Runs the programs that flatten beside each other, on 01's recipes, on generated and on enumerated ones.
+//! `recipes [SEED]`, where the second random set follows from SEED or else from the clock;
+//! `recipes encode FILE` writes the bytes of a recipe in text, `recipes show FILE` the text of bytes.
+
+use harness::other::recipe::rules::{Rules, MUTANTS};
+use harness::other::recipe::slow::{self, conflicts, Conflict};
+use harness::other::recipe::{self, Answer, ReadAnswer};
+use harness::other::{table, RECORD};
+use harness::random::Random;
+use harness::recipes::enumerate::each_recipe;
+use harness::recipes::generate::case;
+use harness::recipes::named::{edges, examples, to_try, Named};
+use harness::recipes::{printed, text};
+use harness::report::{save, seed_from_clock, Tally};
+use std::collections::BTreeMap;
+use std::io::Write;
+use std::process::ExitCode;
+use std::time::Instant;
+
+const FIXED_SEED: u64 = 1;
+const CASES_OF_A_SEED: u64 = 20_000;
+const LEAST_OF_A_NUMBER: usize = 500;
+const LEAST_OF_A_CONFLICT: usize = 100;
+const USAGE: &str = "usage: recipes [SEED] | recipes encode FILE | recipes show FILE";
+
+type Read = fn(&[u8]) -> ReadAnswer;
+type Flatten = fn(&[u8], &mut [u8]) -> Answer;
+
+/// The programs that read recipes, rows 1 to 6; all must answer what the first does.
+const READERS: &[(&str, Read)] = &[
+    ("other", |recipe| recipe::read(recipe).into()),
+    ("slow", |recipe| {
+        slow::read(recipe, &Rules::default()).into()
+    }),
+];
+
+/// The programs that flatten them; all must answer and write what the first does.
+const FLATTENERS: &[(&str, Flatten)] = &[
+    ("other", recipe::flatten),
+    ("slow", |recipe, table| {
+        slow::flatten(recipe, table, &Rules::default())
+    }),
+];
+
+fn main() -> ExitCode {
+    let arguments: Vec<String> = std::env::args().skip(1).collect();
+    let arguments: Vec<&str> = arguments.iter().map(String::as_str).collect();
+    let done = match arguments[..] {
+        [] => return check(seed_from_clock()),
+        ["encode", file] => encode(file),
+        ["show", file] => show(file),
+        [seed] => match seed.parse() {
+            Ok(seed) => return check(seed),
+            Err(_) => Err(USAGE.into()),
+        },
+        _ => Err(USAGE.into()),
+    };
+    match done {
+        Ok(()) => ExitCode::SUCCESS,
+        Err(error) => {
+            eprintln!("{error}");
+            ExitCode::from(2)
+        }
+    }
+}
+
+fn encode(file: &str) -> Result<(), String> {
+    let told = |error: &dyn std::fmt::Display| format!("{file}: {error}");
+    let text = std::fs::read_to_string(file).map_err(|error| told(&error))?;
+    let example = text::parse_example(&text).map_err(|error| told(&error))?;
+    let written = std::io::stdout().write_all(&example.recipe);
+    written.map_err(|error| told(&error))
+}
+
+fn show(file: &str) -> Result<(), String> {
+    let recipe = std::fs::read(file).map_err(|error| format!("{file}: {error}"))?;
+    print!("{}", text::print(&recipe));
+    Ok(())
+}
+
+/// What the recipes of one set have shown.
+struct Outcome {
+    recipes: usize,
+    /// Recipes on which the programs differ, or which one of them answers badly.
+    differing: usize,
+    /// How often each number was answered.
+    numbers: [usize; 14],
+    /// In how many recipes each kind of conflict decided the place, or was beside one that did.
+    conflicts: BTreeMap<(Conflict, bool), usize>,
+    /// The mutants that are tried, and for each the first recipe that tells it from 01.
+    told_by: BTreeMap<usize, Option<usize>>,
+}
+
+fn check(seed: u64) -> ExitCode {
+    let mut tally = Tally::default();
+    let mutants: Vec<Rules> = MUTANTS.iter().map(|(_, bend)| Rules::bent(*bend)).collect();
+
+    for (set, named) in [
+        ("01's recipes to try", to_try()),
+        ("edges", edges()),
+        ("examples", examples()),
+    ] {
+        println!("{} {set}", named.len());
+        for named in &named {
+            tally.add(&named.what, prints_as_said(named));
+        }
+    }
+
+    let mut outcomes = Vec::new();
+    for seed in [FIXED_SEED, seed] {
+        let mut outcome = Outcome::trying(0..mutants.len());
+        let start = Instant::now();
+        for number in 0..CASES_OF_A_SEED {
+            let random = Random::of_case(seed, number);
+            outcome.add(&case(&random), &random, &mutants);
+        }
+        outcome.print(&format!("random recipes of seed {seed}"), start);
+        tally.add("the programs agree on them", outcome.differing == 0);
+        let rarest = outcome.numbers.iter().min();
+        let is_mixed = rarest >= Some(&LEAST_OF_A_NUMBER);
+        tally.add("each number is answered often enough", is_mixed);
+        let often = |conflict: Conflict, decides: bool| {
+            let count = outcome.conflicts.get(&(conflict, decides));
+            count >= Some(&LEAST_OF_A_CONFLICT)
+        };
+        let is_mixed = Conflict::DECIDING.iter().all(|&c| often(c, true))
+            && often(Conflict::MarksLowerFirst, false);
+        tally.add("each conflict is there often enough", is_mixed);
+        outcomes.push(outcome);
+    }
+
+    // The enumeration is long, so only mutants that aren't told yet are tried on it.
+    let is_told = |k: &usize| outcomes.iter().all(|outcome| outcome.told_by[k].is_some());
+    let mut outcome = Outcome::trying((0..mutants.len()).filter(|k| !is_told(k)));
+    let start = Instant::now();
+    let random = Random::new(FIXED_SEED);
+    each_recipe(|recipe| outcome.add(recipe, &random, &mutants));
+    outcome.print("enumerated recipes", start);
+    tally.add("the programs agree on them", outcome.differing == 0);
+    outcomes.push(outcome);
+
+    println!(
+        "{} mutants, told by these recipes of the random sets and the enumeration",
+        MUTANTS.len()
+    );
+    for (k, (what, _)) in MUTANTS.iter().enumerate() {
+        let tried = outcomes.iter().filter_map(|o| o.told_by.get(&k));
+        let told_by: Vec<usize> = tried.filter_map(|told_by| *told_by).collect();
+        println!("  {what}: {told_by:?}");
+        tally.add(what, !told_by.is_empty());
+    }
+    tally.end()
+}
+
+fn prints_as_said(named: &Named) -> bool {
+    let Named {
+        recipe,
+        room,
+        prints,
+        ..
+    } = named;
+    FLATTENERS.iter().all(|(program, flatten)| {
+        let mut output = pattern(*room);
+        let answer = flatten(recipe, &mut output);
+        let shown = printed(&answer, &output);
+        if shown != *prints {
+            println!("{program} prints of {}:\n{shown}", named.what);
+        }
+        shown == *prints
+    }) && complaint(recipe, &[*room]).is_none()
+}
+
+/// Bytes that no flat table has at these places.
+fn pattern(length: usize) -> Vec<u8> {
+    (0..length).map(|i| 0x80 | i as u8).collect()
+}
+
+/// What is wrong with the programs' answers to a recipe, with outputs of these lengths.
+fn complaint(recipe: &[u8], rooms: &[usize]) -> Option<String> {
+    // Boxes have no spare bytes, so valgrind sees what is read or written beyond them.
+    let lent = recipe.to_vec().into_boxed_slice();
+    let read = recipe::read(recipe).into();
+    for (program, reader) in &READERS[1..] {
+        let answer = reader(&lent);
+        if answer != read {
+            return Some(format!("{program} reads it as {answer:?}, not {read:?}"));
+        }
+        if *lent != *recipe {
+            return Some(format!("{program} changes the recipe in reading"));
+        }
+    }
+    for &room in rooms {
+        let mut output = pattern(room);
+        let answer = recipe::flatten(recipe, &mut output);
+        if let Some(fault) = fault(&read, &answer, &output) {
+            return Some(format!("{answer:?} with {room} bytes: {fault}"));
+        }
+        for (program, flatten) in &FLATTENERS[1..] {
+            let mut theirs = pattern(room).into_boxed_slice();
+            let their_answer = flatten(&lent, &mut theirs);
+            if their_answer != answer {
+                return Some(format!(
+                    "{program} answers {their_answer:?} with {room} bytes, not {answer:?}"
+                ));
+            }
+            if *theirs != *output {
+                return Some(format!("{program} writes another output of {room} bytes"));
+            }
+            if *lent != *recipe {
+                return Some(format!("{program} changes the recipe"));
+            }
+        }
+    }
+    None
+}
+
+/// What an answer and its output have to be, whatever the recipe.
+fn fault(read: &ReadAnswer, answer: &Answer, output: &[u8]) -> Option<&'static str> {
+    let bytes = answer.bytes as usize;
+    let Some((written, rest)) = output.split_at_checked(bytes) else {
+        return Some("it has more bytes than the output");
+    };
+    let refusal = (answer.number <= 6).then_some((answer.number, answer.place));
+    if refusal.unwrap_or((0, 0)) != (read.number, read.place) {
+        return Some("reading says something else");
+    }
+    if bytes != answer.count as usize * RECORD || answer.number != 0 && bytes != 0 {
+        return Some("its counts are wrong");
+    }
+    if *rest != pattern(output.len())[bytes..] {
+        return Some("the rest of the output is changed");
+    }
+    // Demand 3: what flattening leaves is closed.
+    match table::check(written) {
+        Ok(count) if count == answer.count as usize => None,
+        _ => Some("the table is not closed"),
+    }
+}
+
+impl Outcome {
+    fn trying(mutants: impl Iterator<Item = usize>) -> Self {
+        Outcome {
+            recipes: 0,
+            differing: 0,
+            numbers: [0; 14],
+            conflicts: BTreeMap::new(),
+            told_by: mutants.map(|k| (k, None)).collect(),
+        }
+    }
+
+    fn add(&mut self, recipe: &[u8], random: &Random, mutants: &[Rules]) {
+        // Output lengths exact, one short, and long.
+        let rooms = match recipe::judge(recipe) {
+            Ok(flat) => {
+                let exact = RECORD * flat.count();
+                vec![
+                    exact,
+                    exact.saturating_sub(1),
+                    exact + 1 + random.below(300),
+                ]
+            }
+            Err(_) => vec![random.pick(&[0, RECORD - 1, 5 * RECORD])],
+        };
+        if let Some(complaint) = complaint(recipe, &rooms) {
+            self.differing += 1;
+            if self.differing == 1 {
+                println!("recipe {}: {complaint}", self.recipes);
+                println!("{}", text::print(recipe));
+                save(recipe, "difference.hex");
+            }
+        }
+        let is_round = text::parse(&text::print(recipe)).as_deref() == Ok(recipe);
+        if !is_round {
+            self.differing += 1;
+            println!("recipe {}: its text gives other bytes", self.recipes);
+        }
+
+        // One of the lengths stands for the recipe in what is counted.
+        let room = random.pick(&rooms);
+        let mut output = pattern(room);
+        let answer = recipe::flatten(recipe, &mut output);
+        self.numbers[answer.number as usize] += 1;
+        if answer.number == 9 {
+            for conflict in conflicts(recipe) {
+                *self.conflicts.entry(conflict).or_default() += 1;
+            }
+        }
+        for (&k, told_by) in &mut self.told_by {
+            // A mutant is run until it is told, since the slow program is slow.
+            if told_by.is_none() {
+                let mut theirs = pattern(room);
+                let their_answer = slow::flatten(recipe, &mut theirs, &mutants[k]);
+                if their_answer != answer || theirs != output {
+                    *told_by = Some(self.recipes);
+                }
+            }
+        }
+        self.recipes += 1;
+    }
+
+    fn print(&self, what: &str, start: Instant) {
+        let seconds = start.elapsed().as_secs_f64();
+        println!("{} {what}, {seconds:.1} s", self.recipes);
+        println!("  numbers 0 to 13 answered {:?} times", self.numbers);
+        for ((conflict, decides), count) in &self.conflicts {
+            let decides = if *decides {
+                "decides"
+            } else {
+                "is there, too,"
+            };
+            println!("  {conflict:?} {decides} {count} times");
+        }
+    }
+}

@@ -1,0 +1,159 @@
+//! Rows 12 and 13: the survivors' references, their flat names, and the table.
+//! A submodel's underscores come out of one look at the names around it, without tries.
+
+use super::definitions::{Definition, Recipe};
+use super::marks::Fates;
+use super::records::{unpadded, Name};
+use super::tree::Tree;
+use crate::other::classes::{Class, Link};
+use crate::other::{Refusal, FIELD, RECORD};
+use std::collections::HashMap;
+
+/// A flat model, ready to be written.
+pub struct Flat {
+    recipe: Recipe,
+    tree: Tree,
+    survivors: Vec<Survivor>,
+}
+
+struct Survivor {
+    class: Class,
+    element: usize,
+    parent: Option<usize>,
+    /// The end of the chain from its reference.
+    reference: Option<usize>,
+}
+
+impl Flat {
+    pub fn of(recipe: Recipe, tree: Tree, fates: &Fates) -> Result<Self, Refusal> {
+        let mut survivors = Vec::with_capacity(tree.elements.len());
+        let mut lowest: Option<usize> = None;
+        for (number, &(instance, index)) in tree.elements.iter().enumerate() {
+            if fates.of[number].is_gone {
+                continue;
+            }
+            let instance = &tree.instances[instance];
+            let element = &recipe.definitions[instance.definition].elements[index];
+            let end = element
+                .reference
+                .map(|reference| fates.chain_end(instance.first + reference));
+            let end_class = |end: usize| {
+                let (instance, index) = tree.elements[end];
+                recipe.definitions[tree.instances[instance].definition].elements[index].class
+            };
+            let ends_at_gone = matches!(end, Link::To(end) if fates.of[end].is_gone);
+            // 12, at the element: "a survivor's reference is blank or filled against its class,
+            // names no element of its definition, or its chain ends at a gone element or a wrong
+            // class".
+            if ends_at_gone || !element.class.allows_reference(end.map(end_class)) {
+                lowest = Some(lowest.map_or(element.place, |place| place.min(element.place)));
+            }
+            survivors.push(Survivor {
+                class: element.class,
+                element: number,
+                parent: element.parent.map(|parent| instance.first + parent),
+                reference: match end {
+                    Link::To(end) => Some(end),
+                    Link::Blank | Link::Nowhere => None,
+                },
+            });
+        }
+        match lowest {
+            Some(place) => Err(Refusal { number: 12, place }),
+            None => Ok(Flat {
+                recipe,
+                tree,
+                survivors,
+            }),
+        }
+    }
+
+    /// The number of flat records.
+    pub fn count(&self) -> usize {
+        self.survivors.len()
+    }
+
+    /// "Each survivor gives 205 bytes, in tree order: its class as the kind byte, then three
+    /// 68-byte fields, zero padded: flat name, parent's flat name or zeros, flat name of the
+    /// element at the end of the chain from its reference or zeros."
+    pub fn write(&self, table: &mut [u8]) -> Result<(), Refusal> {
+        // 13, at 0: "output shorter than 205 × survivors".
+        let records = table.get_mut(..RECORD * self.count()).ok_or(Refusal {
+            number: 13,
+            place: 0,
+        })?;
+        let prefixes = self.prefixes();
+        let write = |field: &mut [u8], number: usize| {
+            let (instance, index) = self.tree.elements[number];
+            let definition = self.tree.instances[instance].definition;
+            let prefix = &prefixes[instance];
+            let (before, name) = field.split_at_mut(prefix.len());
+            before.copy_from_slice(prefix);
+            let element = unpadded(&self.recipe.definitions[definition].elements[index].name);
+            name[..element.len()].copy_from_slice(element);
+        };
+        records.fill(0);
+        for (record, survivor) in records.chunks_exact_mut(RECORD).zip(&self.survivors) {
+            record[0] = survivor.class as u8;
+            let numbers = [Some(survivor.element), survivor.parent, survivor.reference];
+            for (field, number) in record[1..].chunks_exact_mut(FIELD).zip(numbers) {
+                if let Some(number) = number {
+                    write(field, number);
+                }
+            }
+        }
+        Ok(())
+    }
+
+    /// For each instance what its flat names begin with: "the prefixes from main downward".
+    fn prefixes(&self) -> Vec<Vec<u8>> {
+        let definitions = &self.recipe.definitions;
+        let runs: Vec<Runs> = definitions.iter().map(underscores).collect();
+        let mut prefixes: Vec<Vec<u8>> = Vec::with_capacity(self.tree.instances.len());
+        for instance in &self.tree.instances {
+            let Some((above, submodel)) = instance.above else {
+                prefixes.push(Vec::new());
+                continue;
+            };
+            let containing = self.tree.instances[above].definition;
+            let name = unpadded(&definitions[containing].submodels[submodel].name);
+            // "the fewest underscores, two or more, such that no name of an element or submodel
+            // declared in the containing definition, nor in the instantiated one, begins with it"
+            let longest = |definition: usize| runs[definition].get(name).copied().unwrap_or(0);
+            let count = longest(containing).max(longest(instance.definition)) + 1;
+            let mut prefix = prefixes[above].clone();
+            prefix.extend_from_slice(name);
+            prefix.resize(prefix.len() + count.max(2), b'_');
+            prefixes.push(prefix);
+        }
+        prefixes
+    }
+}
+
+/// The longest run of underscores after each beginning of a definition's names, where it is two or
+/// more. A submodel's name doesn't end with an underscore, so a run that follows it starts there.
+type Runs<'a> = HashMap<&'a [u8], usize>;
+
+fn underscores(definition: &Definition) -> Runs<'_> {
+    let mut runs = Runs::new();
+    let elements = definition.elements.iter().map(|element| &element.name);
+    let submodels = definition.submodels.iter().map(|submodel| &submodel.name);
+    for name in elements.chain(submodels) {
+        add_runs(name, &mut runs);
+    }
+    runs
+}
+
+fn add_runs<'a>(name: &'a Name, runs: &mut Runs<'a>) {
+    let name = unpadded(name);
+    let mut start = 0;
+    for part in name.split_inclusive(|&b| b != b'_') {
+        // A part is a run of underscores, and the other character that ends it.
+        let run = part.iter().take_while(|&&b| b == b'_').count();
+        if run >= 2 {
+            let longest = runs.entry(&name[..start]).or_default();
+            *longest = run.max(*longest);
+        }
+        start += part.len();
+    }
+}

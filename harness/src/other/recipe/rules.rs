@@ -1,0 +1,376 @@
+//! The rules that `slow` follows: 01's, and bent ones.
+//! The bent ones, the mutants, are wrong programs that the generated recipes must tell from 01.
+
+use crate::other::rules::{Row, CLASS_TABLE};
+use crate::other::{MAX_RECIPE, NAME};
+use std::ops::RangeInclusive;
+
+/// Which of an instance's elements and submodels come first in the table.
+#[derive(Clone, Copy, PartialEq)]
+pub(super) enum TreeOrder {
+    DepthFirst,
+    BreadthFirst,
+    SubmodelsFirst,
+    /// Elements and subtrees as their records come.
+    AsRecorded,
+}
+
+/// What a replaced-by does.
+#[derive(Clone, Copy, PartialEq)]
+pub(super) enum ReplacedBy {
+    OwnerGoes,
+    TargetGoes,
+    BothStay,
+}
+
+/// The rules of a flattening program; the default ones are 01's.
+pub struct Rules {
+    pub(super) longest_recipe: usize,
+    pub(super) any_first_record: bool,
+    /// When a number from 3 to 12 is judged; those of one rank go by place alone.
+    pub(super) rank: fn(u64) -> u64,
+    /// May a name have digits behind its first character?
+    pub(super) digits: bool,
+    pub(super) padding_is_zero: bool,
+    /// May a field of this kind's record end with an underscore? The second number is the field's.
+    pub(super) may_end_with_underscore: fn(u8, usize) -> bool,
+    /// How many bytes of two names are compared.
+    pub(super) compared: usize,
+    /// Have records of these two kinds one space of names?
+    pub(super) one_space: fn(u8, u8) -> bool,
+    pub(super) second_replaced_by: bool,
+    pub(super) class_table: [Row; 7],
+    /// May what is at the second place be a parent, owner or model at the first?
+    pub(super) parent_at: fn(usize, usize) -> bool,
+    pub(super) owner_at: fn(usize, usize) -> bool,
+    pub(super) model_at: fn(usize, usize) -> bool,
+    pub(super) port_to_own_port: bool,
+    pub(super) unused_cycles: bool,
+    pub(super) ways_to_cycles: bool,
+    pub(super) max_instances: usize,
+    pub(super) max_depth: usize,
+    pub(super) max_elements: usize,
+    pub(super) gone_count_for_7: bool,
+    /// Are these numbers judged in definitions without an instance?
+    pub(super) unused_for_8: bool,
+    pub(super) unused_for_9: bool,
+    pub(super) unused_for_10: bool,
+    pub(super) unused_for_12: bool,
+    /// Is a record at fault that leads to a port which leads nowhere?
+    pub(super) through_broken_ports: bool,
+    /// Do two marks of these kinds conflict if they have one target?
+    pub(super) marks_conflict: fn(u8, u8) -> bool,
+    /// Does a replaced-by conflict with a record of this kind that has its owner as target?
+    pub(super) owner_conflicts: fn(u8) -> bool,
+    /// Do two ports conflict whose instances are the same or not?
+    pub(super) ports_conflict: fn(bool) -> bool,
+    /// Do a mark and a port conflict, if the mark's depth is so much below the port's?
+    pub(super) mark_and_port_conflict: fn(isize) -> bool,
+    pub(super) by_written_names: bool,
+    pub(super) earlier_is_reported: bool,
+    /// Is a mark of this kind judged by 10?
+    pub(super) judged_by_10: fn(u8) -> bool,
+    pub(super) replaced_by: ReplacedBy,
+    /// Do the children of an element go that is the target of a mark of this kind, or owns it?
+    pub(super) takes_children: fn(u8) -> bool,
+    pub(super) chain_steps: usize,
+    pub(super) gone_targets: bool,
+    pub(super) gone_for_12: bool,
+    pub(super) gone_ends: bool,
+    pub(super) spare_room: usize,
+    pub(super) order_of_tree: TreeOrder,
+    /// Are names of the containing and of the instantiated definition tried?
+    pub(super) outer_names: bool,
+    pub(super) inner_names: bool,
+    /// Are names of records of this kind tried?
+    pub(super) tried: fn(u8) -> bool,
+    pub(super) gone_names: bool,
+    pub(super) underscores: RangeInclusive<usize>,
+    /// Is a prefix written, by its number from main downward, by how many there are, and by the
+    /// number of the submodel in its definition?
+    pub(super) prefixed: fn(usize, usize, usize) -> bool,
+    pub(super) nothing_is_written: bool,
+    pub(super) rest_is_zeroed: bool,
+    pub(super) gone_counted: bool,
+}
+
+impl Default for Rules {
+    fn default() -> Self {
+        Rules {
+            longest_recipe: MAX_RECIPE,
+            any_first_record: false,
+            rank: |number| number,
+            digits: true,
+            padding_is_zero: true,
+            may_end_with_underscore: |kind, field| (kind, field) != (4, 0),
+            compared: NAME,
+            one_space: |a, b| a == b || [a, b] == [2, 4] || [a, b] == [4, 2],
+            second_replaced_by: false,
+            class_table: CLASS_TABLE,
+            parent_at: |place, parent| parent < place,
+            owner_at: |_, _| true,
+            model_at: |_, _| true,
+            port_to_own_port: false,
+            unused_cycles: true,
+            ways_to_cycles: false,
+            max_instances: 64,
+            max_depth: 4,
+            max_elements: 1_024,
+            gone_count_for_7: true,
+            unused_for_8: true,
+            unused_for_9: false,
+            unused_for_10: true,
+            unused_for_12: false,
+            through_broken_ports: true,
+            marks_conflict: |_, _| true,
+            owner_conflicts: |_| true,
+            ports_conflict: |same_instance| same_instance,
+            mark_and_port_conflict: |below| below >= 0,
+            by_written_names: false,
+            earlier_is_reported: false,
+            judged_by_10: |kind| kind != 5,
+            replaced_by: ReplacedBy::OwnerGoes,
+            takes_children: |_| true,
+            chain_steps: usize::MAX,
+            gone_targets: false,
+            gone_for_12: false,
+            gone_ends: false,
+            spare_room: 0,
+            order_of_tree: TreeOrder::DepthFirst,
+            outer_names: true,
+            inner_names: true,
+            tried: |kind| matches!(kind, 2 | 4),
+            gone_names: true,
+            underscores: 2..=12,
+            prefixed: |_, _, _| true,
+            nothing_is_written: false,
+            rest_is_zeroed: false,
+            gone_counted: false,
+        }
+    }
+}
+
+type Bend = fn(&mut Rules);
+
+impl Rules {
+    pub fn bent(bend: Bend) -> Self {
+        let mut rules = Rules::default();
+        bend(&mut rules);
+        rules
+    }
+}
+
+/// Each mutant's error, and the rule bent to make it.
+pub const MUTANTS: &[(&str, Bend)] = &[
+    // Reading.
+    ("16,385 bytes may be", |r| r.longest_recipe = MAX_RECIPE + 1),
+    ("16,384 bytes may not be", |r| {
+        r.longest_recipe = MAX_RECIPE - 1
+    }),
+    ("the first record may be of any kind", |r| {
+        r.any_first_record = true
+    }),
+    ("a name has no digits", |r| r.digits = false),
+    ("bytes after the padding's first are ignored", |r| {
+        r.padding_is_zero = false
+    }),
+    ("a submodel's name may end with an underscore", |r| {
+        r.may_end_with_underscore = |_, _| true
+    }),
+    ("its model's name may not, either", |r| {
+        r.may_end_with_underscore = |kind, _| kind != 4
+    }),
+    ("an element's name may not, either", |r| {
+        r.may_end_with_underscore = |kind, field| !matches!((kind, field), (2 | 4, 0))
+    }),
+    ("names are compared in 11 bytes", |r| r.compared = 11),
+    ("submodels and elements have spaces of their own", |r| {
+        r.one_space = |a, b| a == b
+    }),
+    ("ports and elements have one space", |r| {
+        r.one_space = |a, b| a == b || a != 1 && b != 1
+    }),
+    ("an owner may have two replaced-bys", |r| {
+        r.second_replaced_by = true
+    }),
+    ("a parent may be later", |r| r.parent_at = |_, _| true),
+    ("an owner must be earlier", |r| {
+        r.owner_at = |place, owner| owner < place
+    }),
+    ("a model must be earlier", |r| {
+        r.model_at = |place, model| model < place
+    }),
+    ("a local parameter's parent may be blank", |r| {
+        r.class_table[6].parent.blank = true
+    }),
+    ("a blank-submodel port may name a port", |r| {
+        r.port_to_own_port = true
+    }),
+    ("5 is judged before 4", |r| {
+        r.rank = |number| match number {
+            4 => 5,
+            5 => 4,
+            other => other,
+        }
+    }),
+    ("3 to 5 go by place", |r| r.rank = |number| number.max(5)),
+    ("a cycle may be where main doesn't reach", |r| {
+        r.unused_cycles = false
+    }),
+    ("a definition that leads to a cycle is refused", |r| {
+        r.ways_to_cycles = true
+    }),
+    // The tree.
+    ("64 instances without main", |r| r.max_instances = 65),
+    ("63 instances with main", |r| r.max_instances = 63),
+    ("depth 5 may be", |r| r.max_depth = 5),
+    ("depth 4 may not be", |r| r.max_depth = 3),
+    ("1,025 elements may be", |r| r.max_elements = 1_025),
+    ("1,024 elements may not be", |r| r.max_elements = 1_023),
+    ("7 counts survivors only", |r| r.gone_count_for_7 = false),
+    // Targets and conflicts.
+    ("8 is judged in the tree only", |r| r.unused_for_8 = false),
+    ("8 is at the broken port only", |r| {
+        r.through_broken_ports = false
+    }),
+    ("9 is judged in unused definitions", |r| {
+        r.unused_for_9 = true
+    }),
+    ("two replaced-bys may have one target", |r| {
+        r.marks_conflict = |a, b| (a, b) != (7, 7)
+    }),
+    ("two deletions may have one target", |r| {
+        r.marks_conflict = |a, b| (a, b) != (5, 5)
+    }),
+    ("two marks may have one target", |r| {
+        r.marks_conflict = |_, _| false
+    }),
+    ("a replaced-by's owner may be a port's target", |r| {
+        r.owner_conflicts = |kind| kind != 3
+    }),
+    ("a replaced-by's owner may be a mark's target", |r| {
+        r.owner_conflicts = |kind| kind == 3
+    }),
+    ("two ports of one instance may have one target", |r| {
+        r.ports_conflict = |_| false
+    }),
+    ("two ports of different instances may not", |r| {
+        r.ports_conflict = |_| true
+    }),
+    ("mark and port conflict the other way round", |r| {
+        r.mark_and_port_conflict = |below| below <= 0
+    }),
+    ("mark and port conflict wherever they are", |r| {
+        r.mark_and_port_conflict = |_| true
+    }),
+    ("they conflict in one instance only", |r| {
+        r.mark_and_port_conflict = |below| below == 0
+    }),
+    ("they conflict only if the mark is below", |r| {
+        r.mark_and_port_conflict = |below| below > 0
+    }),
+    ("lies below means directly below", |r| {
+        r.mark_and_port_conflict = |below| below == 0 || below == 1
+    }),
+    ("targets are compared as written", |r| {
+        r.by_written_names = true
+    }),
+    ("the earlier record of a conflict is reported", |r| {
+        r.earlier_is_reported = true
+    }),
+    ("10 is judged in the tree only", |r| r.unused_for_10 = false),
+    ("10 is judged for replacements only", |r| {
+        r.judged_by_10 = |kind| kind == 6
+    }),
+    ("10 is judged before 9", |r| {
+        r.rank = |number| match number {
+            9 => 10,
+            10 => 9,
+            other => other,
+        }
+    }),
+    ("9 to 12 go by place", |r| r.rank = |number| number.min(9)),
+    // Gone, and the chain.
+    ("a replaced-by steps to the owner", |r| {
+        r.replaced_by = ReplacedBy::TargetGoes
+    }),
+    ("a replaced-by's owner stays", |r| {
+        r.replaced_by = ReplacedBy::BothStay
+    }),
+    ("children of a gone reaction stay", |r| {
+        r.takes_children = |_| false
+    }),
+    ("children of a replaced reaction stay", |r| {
+        r.takes_children = |kind| kind == 5
+    }),
+    ("no chain step", |r| r.chain_steps = 0),
+    ("one chain step", |r| r.chain_steps = 1),
+    ("two chain steps", |r| r.chain_steps = 2),
+    ("four chain steps", |r| r.chain_steps = 4),
+    ("a replaced-by's target may be gone", |r| {
+        r.gone_targets = true
+    }),
+    ("12 is judged for gone elements", |r| r.gone_for_12 = true),
+    ("12 is judged in unused definitions", |r| {
+        r.unused_for_12 = true
+    }),
+    ("a chain may end at a gone element", |r| r.gone_ends = true),
+    ("a reference may be of any class", |r| {
+        r.class_table[1].reference.classes = &[1, 2, 3, 4, 5, 6, 7]
+    }),
+    ("a reaction's reference may not be blank", |r| {
+        r.class_table[3].reference.blank = false
+    }),
+    // The flat table.
+    ("output must have a byte to spare", |r| r.spare_room = 1),
+    ("the tree is breadth-first", |r| {
+        r.order_of_tree = TreeOrder::BreadthFirst
+    }),
+    ("submodels come before elements", |r| {
+        r.order_of_tree = TreeOrder::SubmodelsFirst
+    }),
+    ("elements and submodels come as recorded", |r| {
+        r.order_of_tree = TreeOrder::AsRecorded
+    }),
+    ("the prefix is tried on inner names only", |r| {
+        r.outer_names = false
+    }),
+    ("the prefix is tried on outer names only", |r| {
+        r.inner_names = false
+    }),
+    ("the prefix is tried on elements only", |r| {
+        r.tried = |kind| kind == 2
+    }),
+    ("the prefix is tried on submodels only", |r| {
+        r.tried = |kind| kind == 4
+    }),
+    ("the prefix is tried on ports, too", |r| {
+        r.tried = |kind| matches!(kind, 2..=4)
+    }),
+    ("gone elements don't count for prefixes", |r| {
+        r.gone_names = false
+    }),
+    ("one underscore is enough", |r| r.underscores = 1..=12),
+    ("three underscores are the most", |r| r.underscores = 2..=3),
+    ("eleven underscores are the most", |r| {
+        r.underscores = 2..=11
+    }),
+    ("only the first prefix is written", |r| {
+        r.prefixed = |number, _, _| number == 0
+    }),
+    ("only the last prefix is written", |r| {
+        r.prefixed = |number, all, _| number + 1 == all
+    }),
+    ("only the first submodel's names are prefixed", |r| {
+        r.prefixed = |_, _, submodel| submodel == 0
+    }),
+    ("accepted, and nothing is written", |r| {
+        r.nothing_is_written = true
+    }),
+    ("always 13", |r| r.spare_room = usize::MAX / 2),
+    ("always 7", |r| r.max_instances = 0),
+    ("bytes after the records are zeroed", |r| {
+        r.rest_is_zeroed = true
+    }),
+    ("the count has gone elements", |r| r.gone_counted = true),
+];

@@ -1,0 +1,859 @@
+//! 01's flattening word by word and slowly, by rules that can be bent one at a time.
+//! It shares nothing with the other program but a few lengths.
+
+use super::rules::{ReplacedBy, Rules, TreeOrder};
+use super::Answer;
+use crate::other::rules::{before_zero, Row};
+use crate::other::{Refusal, FIELD, NAME, RECORD};
+use std::collections::{BTreeSet, HashSet};
+
+#[derive(Clone, Copy)]
+enum Part {
+    Name,
+    NameOrBlank,
+    Class,
+    Way,
+}
+
+impl Part {
+    fn length(self) -> usize {
+        match self {
+            Part::Name | Part::NameOrBlank => NAME,
+            Part::Class | Part::Way => 1,
+        }
+    }
+}
+
+/// 01's table of kinds.
+fn body(kind: u8) -> Option<&'static [Part]> {
+    use Part::*;
+    Some(match kind {
+        1 => &[Name],
+        2 => &[Name, Class, NameOrBlank, NameOrBlank],
+        3 => &[Name, NameOrBlank, Way, Name],
+        4 => &[Name, Name],
+        5 => &[Name, Way, Name],
+        6 | 7 => &[Name, Name, Way, Name],
+        _ => return None,
+    })
+}
+
+struct Record<'a> {
+    place: usize,
+    kind: u8,
+    body: &'a [u8],
+    /// The index of its kind 1.
+    model: usize,
+}
+
+impl<'a> Record<'a> {
+    fn is_pointer(&self) -> bool {
+        matches!(self.kind, 3 | 5..=7)
+    }
+
+    fn is_mark(&self) -> bool {
+        matches!(self.kind, 5..=7)
+    }
+
+    /// The first field: a name, or the owner of kinds 6 and 7.
+    fn name(&self) -> &'a [u8] {
+        before_zero(&self.body[..NAME])
+    }
+
+    fn model_name(&self) -> &'a [u8] {
+        before_zero(&self.body[NAME..])
+    }
+
+    fn class(&self) -> u8 {
+        self.body[NAME]
+    }
+
+    fn parent(&self) -> &'a [u8] {
+        before_zero(&self.body[NAME + 1..][..NAME])
+    }
+
+    fn reference(&self) -> &'a [u8] {
+        before_zero(&self.body[2 * NAME + 1..])
+    }
+
+    /// Kinds 3, 5, 6 and 7 end with submodel, way and target.
+    fn pointed(&self) -> &'a [u8] {
+        &self.body[self.body.len() - (2 * NAME + 1)..]
+    }
+
+    fn submodel(&self) -> &'a [u8] {
+        before_zero(&self.pointed()[..NAME])
+    }
+
+    fn way(&self) -> u8 {
+        self.pointed()[NAME]
+    }
+
+    fn target(&self) -> &'a [u8] {
+        before_zero(&self.pointed()[NAME + 1..])
+    }
+}
+
+/// The submodels that lead to a target, from the pointer's instance on, and its element.
+type Path = (Vec<usize>, usize);
+
+/// A record of an instance; both by index.
+type Spot = (usize, usize);
+
+struct Instance {
+    model: usize,
+    above: Option<Spot>,
+    depth: usize,
+}
+
+/// A port or mark of the tree with its target, and with its owner where it has one.
+struct Pointer {
+    instance: usize,
+    record: usize,
+    target: Spot,
+    owner: Option<Spot>,
+}
+
+/// The four kinds of conflict, each with what comes first.
+#[derive(Clone, Copy, Debug, PartialEq, Eq, PartialOrd, Ord)]
+pub enum Conflict {
+    MarksUpperFirst,
+    MarksLowerFirst,
+    MarksOfOneInstance,
+    OwnerFirst,
+    OwnerLast,
+    PortsByNameFirst,
+    PortsByPortFirst,
+    PortsOneWay,
+    MarkThenPort,
+    PortThenMark,
+}
+
+impl Conflict {
+    /// Those that can decide a place. Two marks where the lower comes first can't: the upper leads
+    /// through a port in the lower's definition, which conflicts with the lower at an earlier place.
+    pub const DECIDING: [Conflict; 9] = [
+        Conflict::MarksUpperFirst,
+        Conflict::MarksOfOneInstance,
+        Conflict::OwnerFirst,
+        Conflict::OwnerLast,
+        Conflict::PortsByNameFirst,
+        Conflict::PortsByPortFirst,
+        Conflict::PortsOneWay,
+        Conflict::MarkThenPort,
+        Conflict::PortThenMark,
+    ];
+}
+
+struct Reading<'a> {
+    rules: &'a Rules,
+    records: Vec<Record<'a>>,
+    /// For each submodel the index of its model's kind 1.
+    models: Vec<Option<usize>>,
+    paths: Vec<Option<Path>>,
+    instances: Vec<Instance>,
+    pointers: Vec<Pointer>,
+    /// The elements of the tree in tree order, and those of them that are gone.
+    elements: Vec<Spot>,
+    gone: HashSet<Spot>,
+}
+
+pub fn read(recipe: &[u8], rules: &Rules) -> Result<(), Refusal> {
+    Reading::new(recipe, rules)?.judge(|number| number <= 6)
+}
+
+pub fn flatten(recipe: &[u8], table: &mut [u8], rules: &Rules) -> Answer {
+    let verdict = Reading::new(recipe, rules).and_then(|mut reading| {
+        reading.judge(|_| true)?;
+        reading.write(table)
+    });
+    verdict.into()
+}
+
+/// The conflicts of a recipe that 01 refuses with 9, each with whether it is one of those that
+/// decide the place.
+pub fn conflicts(recipe: &[u8]) -> BTreeSet<(Conflict, bool)> {
+    let rules = Rules::default();
+    let Ok(mut reading) = Reading::new(recipe, &rules) else {
+        return BTreeSet::new();
+    };
+    match reading.judge(|_| true) {
+        Err(Refusal { number: 9, place }) => {
+            let conflicts = reading.conflicts().into_iter();
+            conflicts
+                .map(|(_, later, conflict)| (conflict, later == place))
+                .collect()
+        }
+        _ => BTreeSet::new(),
+    }
+}
+
+impl Rules {
+    fn is_name(&self, field: &[u8]) -> bool {
+        let name = before_zero(field);
+        let is_letter = |b: &u8| matches!(b, b'a'..=b'z' | b'A'..=b'Z' | b'_');
+        let goes_on = |b: &u8| is_letter(b) || self.digits && b.is_ascii_digit();
+        let is_padded = field[name.len()..].iter().all(|&b| b == 0);
+        name.first().is_some_and(is_letter)
+            && name.iter().all(goes_on)
+            && (is_padded || !self.padding_is_zero)
+    }
+
+    fn reads(&self, record: &Record) -> bool {
+        let mut rest = record.body;
+        let parts = body(record.kind).unwrap_or_default();
+        parts.iter().enumerate().all(|(i, part)| {
+            let (field, after) = rest.split_at(part.length());
+            rest = after;
+            let ends_well = (self.may_end_with_underscore)(record.kind, i)
+                || !before_zero(field).ends_with(b"_");
+            match part {
+                Part::Name => self.is_name(field) && ends_well,
+                Part::NameOrBlank => self.is_name(field) || field.iter().all(|&b| b == 0),
+                Part::Class => (1..=7).contains(&field[0]),
+                Part::Way => field[0] <= 1,
+            }
+        })
+    }
+
+    fn same(&self, a: &[u8], b: &[u8]) -> bool {
+        let compared = |name: &[u8]| name.len().min(self.compared);
+        a[..compared(a)] == b[..compared(b)]
+    }
+}
+
+impl<'a> Reading<'a> {
+    /// Rows 1 and 2.
+    fn new(recipe: &'a [u8], rules: &'a Rules) -> Result<Self, Refusal> {
+        if recipe.is_empty() || recipe.len() > rules.longest_recipe {
+            return Err(Refusal {
+                number: 1,
+                place: 0,
+            });
+        }
+        let mut records: Vec<Record> = Vec::new();
+        let mut place = 0;
+        while place < recipe.len() {
+            let kind = recipe[place];
+            let refusal = Refusal { number: 2, place };
+            let parts = body(kind).ok_or(refusal)?;
+            let length: usize = parts.iter().map(|part| part.length()).sum();
+            let is_first = place == 0 && kind != 1 && !rules.any_first_record;
+            if is_first || recipe.len() - place <= length {
+                return Err(refusal);
+            }
+            let model = match kind {
+                1 => records.len(),
+                _ => records.last().map_or(0, |before| before.model),
+            };
+            records.push(Record {
+                place,
+                kind,
+                body: &recipe[place + 1..][..length],
+                model,
+            });
+            place += 1 + length;
+        }
+        let models = records.iter().map(|record| {
+            let is_model = |r: &Record| r.kind == 1 && rules.same(r.name(), record.model_name());
+            let mut models = records.iter().filter(|_| record.kind == 4);
+            models.position(is_model)
+        });
+        let models = models.collect();
+        Ok(Reading {
+            rules,
+            records,
+            models,
+            paths: Vec::new(),
+            instances: Vec::new(),
+            pointers: Vec::new(),
+            elements: Vec::new(),
+            gone: HashSet::new(),
+        })
+    }
+
+    fn judge(&mut self, is_asked: fn(u64) -> bool) -> Result<(), Refusal> {
+        for rank in 3..=12 {
+            let is_judged = |&number: &u64| (self.rules.rank)(number) == rank && is_asked(number);
+            let numbers: Vec<u64> = (3..=12).filter(is_judged).collect();
+            let mut found: Option<Refusal> = None;
+            for number in numbers {
+                let lowest = self.faults(number).into_iter().min();
+                let refusal = lowest.map(|place| Refusal { number, place });
+                found = match (found, refusal) {
+                    (Some(a), Some(b)) if b.place < a.place => Some(b),
+                    (a, b) => a.or(b),
+                };
+            }
+            if let Some(refusal) = found {
+                return Err(refusal);
+            }
+        }
+        Ok(())
+    }
+
+    /// The places to which a number applies.
+    fn faults(&mut self, number: u64) -> Vec<usize> {
+        let places = |is_at_fault: &dyn Fn(usize) -> bool| -> Vec<usize> {
+            let faults = (0..self.records.len()).filter(|&i| is_at_fault(i));
+            faults.map(|i| self.records[i].place).collect()
+        };
+        match number {
+            3 => places(&|i| !self.rules.reads(&self.records[i])),
+            4 => places(&|i| (0..i).any(|earlier| self.repeats(earlier, i))),
+            5 => places(&|i| !self.links(i)),
+            6 => places(&|i| self.records[i].kind == 1 && self.is_cyclic(i)),
+            7 => match self.grow() {
+                true => Vec::new(),
+                false => vec![0],
+            },
+            8 => places(&|i| self.is_lost(i)),
+            9 => {
+                let conflicts = self.conflicts().into_iter();
+                let earlier_is_reported = self.rules.earlier_is_reported;
+                let reported = |(earlier, later, _)| match earlier_is_reported {
+                    true => earlier,
+                    false => later,
+                };
+                conflicts.map(reported).collect()
+            }
+            10 => places(&|i| self.differs(i)),
+            11 => {
+                let is_gone = |p: &&Pointer| {
+                    self.records[p.record].kind == 7
+                        && self.gone.contains(&p.target)
+                        && !self.rules.gone_targets
+                };
+                let faults = self.pointers.iter().filter(is_gone);
+                faults.map(|p| self.records[p.record].place).collect()
+            }
+            _ => self.dangling(),
+        }
+    }
+
+    /// The record of this kind that has this name in the definition.
+    fn find(&self, model: usize, kind: u8, name: &[u8]) -> Option<usize> {
+        let is_wanted = |r: &Record| r.kind == kind && self.rules.same(r.name(), name);
+        let held = self.records[model..].iter();
+        let mut held = held.take_while(|r| r.model == model);
+        held.position(is_wanted).map(|i| model + i)
+    }
+
+    fn row(&self, element: usize) -> Option<&Row> {
+        let class = usize::from(self.records[element].class());
+        self.rules.class_table.get(class.checked_sub(1)?)
+    }
+
+    // 4.
+
+    fn repeats(&self, earlier: usize, later: usize) -> bool {
+        let (a, b) = (&self.records[earlier], &self.records[later]);
+        let is_space = match (a.kind, b.kind) {
+            (1, 1) => true,
+            (7, 7) => a.model == b.model && !self.rules.second_replaced_by,
+            (2..=4, 2..=4) => a.model == b.model && (self.rules.one_space)(a.kind, b.kind),
+            _ => false,
+        };
+        is_space && self.rules.same(a.name(), b.name())
+    }
+
+    // 5.
+
+    fn links(&self, i: usize) -> bool {
+        let record = &self.records[i];
+        let model = record.model;
+        let is_element = |name| self.find(model, 2, name).is_some();
+        let is_submodel = || self.find(model, 4, record.submodel()).is_some();
+        match record.kind {
+            2 => self.has_parent(i),
+            3 if record.submodel().is_empty() => match record.way() {
+                0 => is_element(record.target()),
+                _ => {
+                    let port = self.find(model, 3, record.target());
+                    self.rules.port_to_own_port && port.is_some()
+                }
+            },
+            3 | 5 => is_submodel(),
+            4 => self.models[i]
+                .is_some_and(|m| (self.rules.model_at)(record.place, self.records[m].place)),
+            6 | 7 => {
+                let owner = self.find(model, 2, record.name());
+                let is_placed =
+                    |owner: usize| (self.rules.owner_at)(record.place, self.records[owner].place);
+                owner.is_some_and(is_placed) && is_submodel()
+            }
+            _ => true,
+        }
+    }
+
+    fn has_parent(&self, i: usize) -> bool {
+        let record = &self.records[i];
+        let Some(row) = self.row(i) else {
+            return false;
+        };
+        match record.parent() {
+            [] => row.parent.blank,
+            name => self.find(record.model, 2, name).is_some_and(|parent| {
+                let parent = &self.records[parent];
+                (self.rules.parent_at)(record.place, parent.place)
+                    && row.parent.classes.contains(&parent.class())
+            }),
+        }
+    }
+
+    // 6.
+
+    fn submodels(&self, model: usize) -> impl Iterator<Item = usize> + '_ {
+        let held = (model..self.records.len()).take_while(move |&i| self.records[i].model == model);
+        held.filter(|&i| self.records[i].kind == 4)
+    }
+
+    /// "A definition reaches the definition of each model named in its submodel records, and every
+    /// definition reached from there."
+    fn reached(&self, model: usize) -> HashSet<usize> {
+        let mut reached = HashSet::new();
+        let mut open = vec![model];
+        while let Some(from) = open.pop() {
+            let below = self.submodels(from).filter_map(|s| self.models[s]);
+            open.extend(below.filter(|&there| reached.insert(there)));
+        }
+        reached
+    }
+
+    fn is_cyclic(&self, model: usize) -> bool {
+        let reached = self.reached(model);
+        let reaches_itself = reached.contains(&model);
+        if self.rules.ways_to_cycles {
+            return reached.iter().any(|&m| self.reached(m).contains(&m));
+        }
+        reaches_itself
+            && (self.rules.unused_cycles || model == 0 || self.reached(0).contains(&model))
+    }
+
+    // 7.
+
+    /// Unfolds the tree and sees what the marks do to it; false if it passes a limit.
+    fn grow(&mut self) -> bool {
+        if !self.unfold(0, None, 0) {
+            return false;
+        }
+        self.paths = (0..self.records.len())
+            .map(|i| self.path(i, self.records.len()))
+            .collect();
+        for instance in 0..self.instances.len() {
+            let held = self.held(instance);
+            for i in held.filter(|&i| self.records[i].is_pointer()) {
+                if let Some(target) = self.in_tree(instance, i) {
+                    let owner = self.owner(instance, i);
+                    self.pointers.push(Pointer {
+                        instance,
+                        record: i,
+                        target,
+                        owner,
+                    });
+                }
+            }
+        }
+        self.list_elements(0);
+        if self.rules.order_of_tree == TreeOrder::BreadthFirst {
+            self.elements
+                .sort_by_key(|&(instance, _)| self.instances[instance].depth);
+        }
+        let elements = self.elements.iter().copied();
+        self.gone = elements.filter(|&spot| self.is_gone(spot)).collect();
+        let counted = match self.rules.gone_count_for_7 {
+            true => self.elements.len(),
+            false => self.elements.len() - self.gone.len(),
+        };
+        counted <= self.rules.max_elements
+    }
+
+    fn unfold(&mut self, model: usize, above: Option<Spot>, depth: usize) -> bool {
+        let is_over = depth > self.rules.max_depth;
+        if is_over || self.instances.len() == self.rules.max_instances {
+            return false;
+        }
+        let instance = self.instances.len();
+        self.instances.push(Instance {
+            model,
+            above,
+            depth,
+        });
+        let submodels: Vec<usize> = self.submodels(model).collect();
+        submodels.into_iter().all(|submodel| {
+            self.models[submodel]
+                .is_some_and(|below| self.unfold(below, Some((instance, submodel)), depth + 1))
+        })
+    }
+
+    /// The indices of the records of an instance.
+    fn held(&self, instance: usize) -> std::ops::Range<usize> {
+        let model = self.instances[instance].model;
+        let held = self.records[model..].iter();
+        model..model + held.take_while(|r| r.model == model).count()
+    }
+
+    fn list_elements(&mut self, instance: usize) {
+        let held = self.held(instance);
+        let turns: &[&[u8]] = match self.rules.order_of_tree {
+            TreeOrder::DepthFirst | TreeOrder::BreadthFirst => &[&[2], &[4]],
+            TreeOrder::SubmodelsFirst => &[&[4], &[2]],
+            TreeOrder::AsRecorded => &[&[2, 4]],
+        };
+        for kinds in turns {
+            for i in held.clone() {
+                match self.records[i].kind {
+                    kind if !kinds.contains(&kind) => {}
+                    2 => self.elements.push((instance, i)),
+                    _ => {
+                        if let Some(below) = self.below((instance, i)) {
+                            self.list_elements(below);
+                        }
+                    }
+                }
+            }
+        }
+    }
+
+    /// The instance that a submodel of an instance makes.
+    fn below(&self, submodel: Spot) -> Option<usize> {
+        let mut instances = self.instances.iter();
+        instances.position(|instance| instance.above == Some(submodel))
+    }
+
+    // 8.
+
+    /// The target of a port or mark in its definition. A bent rule may lead it round.
+    fn path(&self, i: usize, most_steps: usize) -> Option<Path> {
+        let record = &self.records[i];
+        if !record.is_pointer() || most_steps == 0 {
+            return None;
+        }
+        let (mut path, model) = match record.submodel() {
+            [] => (Vec::new(), record.model),
+            name => {
+                let submodel = self.find(record.model, 4, name)?;
+                (vec![submodel], self.models[submodel]?)
+            }
+        };
+        match record.way() {
+            0 => Some((path, self.find(model, 2, record.target())?)),
+            _ => {
+                let port = self.find(model, 3, record.target())?;
+                let (further, element) = self.path(port, most_steps - 1)?;
+                path.extend(further);
+                Some((path, element))
+            }
+        }
+    }
+
+    fn in_tree(&self, instance: usize, i: usize) -> Option<Spot> {
+        let (path, element) = self.paths[i].as_ref()?;
+        let mut steps = path.iter();
+        let end = steps.try_fold(instance, |at, &submodel| self.below((at, submodel)))?;
+        Some((end, *element))
+    }
+
+    fn is_used(&self, model: usize) -> bool {
+        self.instances.iter().any(|i| i.model == model)
+    }
+
+    fn is_lost(&self, i: usize) -> bool {
+        let record = &self.records[i];
+        let is_judged = self.rules.unused_for_8 || self.is_used(record.model);
+        let leads_to_port = || {
+            let submodel = self.find(record.model, 4, record.submodel())?;
+            self.find(self.models[submodel]?, 3, record.target())
+        };
+        // A wrong reading: a record that leads to a port is not at fault.
+        let is_excused =
+            || !self.rules.through_broken_ports && record.way() == 1 && leads_to_port().is_some();
+        record.is_pointer() && is_judged && self.paths[i].is_none() && !is_excused()
+    }
+
+    // 9.
+
+    /// All conflicts: the earlier and the later record's place, and which kind.
+    fn conflicts(&self) -> Vec<(usize, usize, Conflict)> {
+        let mut conflicts = Vec::new();
+        for a in &self.pointers {
+            for b in &self.pointers {
+                let places = [a, b].map(|p| self.records[p.record].place);
+                if places[0] < places[1] {
+                    let found = self.conflict(a, b).into_iter().flatten();
+                    conflicts.extend(found.map(|kind| (places[0], places[1], kind)));
+                }
+            }
+        }
+        if self.rules.unused_for_9 {
+            conflicts.extend(self.unused_conflicts());
+        }
+        conflicts
+    }
+
+    /// The ways in which an earlier and a later record conflict.
+    fn conflict(&self, a: &Pointer, b: &Pointer) -> [Option<Conflict>; 4] {
+        let (first, second) = (&self.records[a.record], &self.records[b.record]);
+        let one_target = match self.rules.by_written_names {
+            true => a.instance == b.instance && first.pointed() == second.pointed(),
+            false => a.target == b.target,
+        };
+        let below = self.levels_below(b.instance, a.instance);
+        let is_owner = |by: &Pointer, of: &Pointer| {
+            self.records[by.record].kind == 7
+                && by.owner == Some(of.target)
+                && (self.rules.owner_conflicts)(self.records[of.record].kind)
+        };
+        let mark_and_port = |levels: Option<isize>, conflict| {
+            let conflicts = one_target && levels.is_some_and(self.rules.mark_and_port_conflict);
+            conflicts.then_some(conflict)
+        };
+
+        let marks = first.is_mark()
+            && second.is_mark()
+            && one_target
+            && (self.rules.marks_conflict)(first.kind, second.kind);
+        let ports = first.kind == 3
+            && second.kind == 3
+            && one_target
+            && (self.rules.ports_conflict)(a.instance == b.instance);
+        let mark_and_port = match (first.is_mark(), second.is_mark()) {
+            (true, false) => mark_and_port(below.map(|levels| -levels), Conflict::MarkThenPort),
+            (false, true) => mark_and_port(below, Conflict::PortThenMark),
+            _ => None,
+        };
+        let owner = if is_owner(a, b) {
+            Some(Conflict::OwnerFirst)
+        } else {
+            is_owner(b, a).then_some(Conflict::OwnerLast)
+        };
+        let marks = marks.then_some(match below {
+            None | Some(0) => Conflict::MarksOfOneInstance,
+            Some(levels) if levels > 0 => Conflict::MarksUpperFirst,
+            Some(_) => Conflict::MarksLowerFirst,
+        });
+        let ports = ports.then(|| match (first.way(), second.way()) {
+            (0, 1) => Conflict::PortsByNameFirst,
+            (1, 0) => Conflict::PortsByPortFirst,
+            _ => Conflict::PortsOneWay,
+        });
+        [marks, owner, ports, mark_and_port]
+    }
+
+    /// How far an instance lies below another, or above it if negative; 0 if it is the other.
+    fn levels_below(&self, instance: usize, other: usize) -> Option<isize> {
+        let up = |from: usize, to: usize| {
+            let above = |&at: &usize| self.instances[at].above.map(|(above, _)| above);
+            let mut way = std::iter::successors(Some(from), above);
+            way.position(|at| at == to).map(|levels| levels as isize)
+        };
+        up(instance, other).or_else(|| up(other, instance).map(|levels| -levels))
+    }
+
+    /// A wrong reading: the conflicts of records of one unused definition.
+    fn unused_conflicts(&self) -> Vec<(usize, usize, Conflict)> {
+        let mut conflicts = Vec::new();
+        for (i, first) in self.records.iter().enumerate() {
+            for (j, second) in self.records.iter().enumerate().skip(i + 1) {
+                let is_unused = first.model == second.model && !self.is_used(first.model);
+                if is_unused && self.paths[i].is_some() && self.paths[i] == self.paths[j] {
+                    conflicts.push((first.place, second.place, Conflict::MarksOfOneInstance));
+                }
+            }
+        }
+        conflicts
+    }
+
+    /// The owner of a mark of kind 6 or 7.
+    fn owner(&self, instance: usize, mark: usize) -> Option<Spot> {
+        let record = &self.records[mark];
+        let element = self.find(record.model, 2, record.name())?;
+        matches!(record.kind, 6 | 7).then_some((instance, element))
+    }
+
+    // 10.
+
+    fn differs(&self, i: usize) -> bool {
+        let record = &self.records[i];
+        let is_judged = record.is_mark()
+            && (self.rules.judged_by_10)(record.kind)
+            && (self.rules.unused_for_10 || self.is_used(record.model));
+        let owner = || self.find(record.model, 2, record.name());
+        let target = || self.paths[i].as_ref().map(|&(_, element)| element);
+        let class = |element: usize| self.records[element].class();
+        is_judged && owner().map(class) != target().map(class)
+    }
+
+    // Gone, and the chain.
+
+    /// The mark that makes an element go by itself.
+    fn gone_by(&self, spot: Spot) -> Option<&Pointer> {
+        let bent = self.rules.replaced_by;
+        self.pointers
+            .iter()
+            .find(|p| match self.records[p.record].kind {
+                5 | 6 => p.target == spot,
+                7 if bent == ReplacedBy::OwnerGoes => p.owner == Some(spot),
+                7 if bent == ReplacedBy::TargetGoes => p.target == spot,
+                _ => false,
+            })
+    }
+
+    fn is_gone(&self, spot: Spot) -> bool {
+        let record = &self.records[spot.1];
+        let parent = match record.parent() {
+            [] => None,
+            name => self.find(record.model, 2, name),
+        };
+        let takes = |mark: &Pointer| (self.rules.takes_children)(self.records[mark.record].kind);
+        let parent = parent.and_then(|parent| self.gone_by((spot.0, parent)));
+        self.gone_by(spot).is_some() || parent.is_some_and(takes)
+    }
+
+    fn chain_end(&self, mut spot: Spot) -> Spot {
+        // A bent rule may lead a chain round.
+        for _ in 0..self.rules.chain_steps.min(self.elements.len()) {
+            let next = self.gone_by(spot).and_then(|mark| {
+                match (self.records[mark.record].kind, self.rules.replaced_by) {
+                    (7, ReplacedBy::OwnerGoes) => Some(mark.target),
+                    _ => mark.owner,
+                }
+            });
+            let Some(next) = next else { break };
+            spot = next;
+        }
+        spot
+    }
+
+    // 12.
+
+    fn dangling(&self) -> Vec<usize> {
+        let is_at_fault = |&&spot: &&Spot| {
+            let is_judged = !self.gone.contains(&spot) || self.rules.gone_for_12;
+            is_judged && self.reference(spot).is_none()
+        };
+        let place = |element: usize| self.records[element].place;
+        let in_tree = self.elements.iter().filter(is_at_fault);
+        let mut places: Vec<usize> = in_tree.map(|&(_, element)| place(element)).collect();
+        if self.rules.unused_for_12 {
+            let all = 0..self.records.len();
+            let is_unused = |&i: &usize| {
+                let record = &self.records[i];
+                record.kind == 2 && !self.is_used(record.model) && !self.refers(i)
+            };
+            places.extend(all.filter(is_unused).map(place));
+        }
+        places
+    }
+
+    /// A wrong reading of 12 for an unused definition, where nothing is gone.
+    fn refers(&self, element: usize) -> bool {
+        let record = &self.records[element];
+        let Some(row) = self.row(element) else {
+            return false;
+        };
+        match record.reference() {
+            [] => row.reference.blank,
+            name => self
+                .find(record.model, 2, name)
+                .is_some_and(|e| row.reference.classes.contains(&self.records[e].class())),
+        }
+    }
+
+    /// The end of the chain from an element's reference, `Some(None)` for a blank, or `None` if 12
+    /// applies.
+    fn reference(&self, spot: Spot) -> Option<Option<Spot>> {
+        let record = &self.records[spot.1];
+        let row = self.row(spot.1)?;
+        if record.reference().is_empty() {
+            return row.reference.blank.then_some(None);
+        }
+        let named = self.find(record.model, 2, record.reference())?;
+        let end = self.chain_end((spot.0, named));
+        let ends_well = (!self.gone.contains(&end) || self.rules.gone_ends)
+            && row.reference.classes.contains(&self.records[end.1].class());
+        ends_well.then_some(Some(end))
+    }
+
+    // Prefixes, 13 and the table.
+
+    /// What an instance adds to the names in it and below it; for main nothing.
+    fn prefix(&self, instance: usize) -> Vec<u8> {
+        let Some((above, record)) = self.instances[instance].above else {
+            return Vec::new();
+        };
+        let tried = |at: usize| self.held(at).map(move |i| (at, i));
+        let outer = tried(above).filter(|_| self.rules.outer_names);
+        let inner = tried(instance).filter(|_| self.rules.inner_names);
+        let counts = |&spot: &Spot| {
+            (self.rules.tried)(self.records[spot.1].kind)
+                && (self.rules.gone_names || !self.gone.contains(&spot))
+        };
+        let names: Vec<&[u8]> = outer
+            .chain(inner)
+            .filter(counts)
+            .map(|(_, i)| self.records[i].name())
+            .collect();
+        let with = |count: usize| [self.records[record].name(), &vec![b'_'; count]].concat();
+        let is_free = |prefix: &Vec<u8>| !names.iter().any(|name| name.starts_with(prefix));
+        let mut tries = self.rules.underscores.clone().map(with);
+        tries
+            .find(is_free)
+            .unwrap_or_else(|| with(*self.rules.underscores.end()))
+    }
+
+    fn flat_name(&self, spot: Spot, prefixes: &[Vec<u8>]) -> Vec<u8> {
+        let mut way = Vec::new();
+        let mut at = spot.0;
+        while let Some((above, submodel)) = self.instances[at].above {
+            let mut submodels = self.submodels(self.instances[above].model);
+            way.insert(0, (at, submodels.position(|s| s == submodel).unwrap_or(0)));
+            at = above;
+        }
+        let is_written = |&number: &usize| (self.rules.prefixed)(number, way.len(), way[number].1);
+        let numbers = (0..way.len()).filter(is_written);
+        let mut name: Vec<u8> = numbers.flat_map(|i| prefixes[way[i].0].clone()).collect();
+        name.extend(self.records[spot.1].name());
+        name
+    }
+
+    fn write(&self, table: &mut [u8]) -> Result<usize, Refusal> {
+        let elements = self.elements.iter();
+        let survivors: Vec<Spot> = elements
+            .filter(|spot| !self.gone.contains(spot))
+            .copied()
+            .collect();
+        if table.len() < RECORD * survivors.len() + self.rules.spare_room {
+            return Err(Refusal {
+                number: 13,
+                place: 0,
+            });
+        }
+        let prefixes: Vec<Vec<u8>> = (0..self.instances.len()).map(|i| self.prefix(i)).collect();
+        let written = match self.rules.nothing_is_written {
+            true => &[],
+            false => &survivors[..],
+        };
+        for (record, &spot) in table.chunks_exact_mut(RECORD).zip(written) {
+            record.fill(0);
+            record[0] = self.records[spot.1].class();
+            let parent = match self.records[spot.1].parent() {
+                [] => None,
+                name => self.find(self.records[spot.1].model, 2, name),
+            };
+            let parent = parent.map(|parent| (spot.0, parent));
+            let named = [Some(spot), parent, self.reference(spot).flatten()];
+            for (field, named) in record[1..].chunks_exact_mut(FIELD).zip(named) {
+                let name = named.map_or(Vec::new(), |spot| self.flat_name(spot, &prefixes));
+                field[..name.len()].copy_from_slice(&name);
+            }
+        }
+        if self.rules.rest_is_zeroed {
+            table[RECORD * survivors.len()..].fill(0);
+        }
+        Ok(match self.rules.gone_counted {
+            true => self.elements.len(),
+            false => survivors.len(),
+        })
+    }
+}

@@ -1,0 +1,328 @@
+//! 01's "Recipes to try", the edges of its sentences, and the example files,
+//! each with what 01's printing program prints of it.
+
+use super::aimed::chain;
+use super::damage::padded;
+use super::text::{parse, parse_example, Example};
+use crate::other::MAX_RECIPE;
+use crate::random::Random;
+
+/// The output that 01's printing program lends.
+pub const ROOM: usize = 65_395;
+
+pub struct Named {
+    pub what: String,
+    pub recipe: Vec<u8>,
+    pub room: usize,
+    pub prints: String,
+}
+
+/// The files of examples/, with what they say that they give.
+pub fn examples() -> Vec<Named> {
+    const FILES: &[(&str, &str)] = &[
+        (
+            "sample-r",
+            include_str!("../../../examples/sample-r.recipe"),
+        ),
+        (
+            "inner-names",
+            include_str!("../../../examples/inner-names.recipe"),
+        ),
+        (
+            "replaced-rate-rule",
+            include_str!("../../../examples/replaced-rate-rule.recipe"),
+        ),
+        (
+            "lost-reactant",
+            include_str!("../../../examples/lost-reactant.recipe"),
+        ),
+        (
+            "missing-port",
+            include_str!("../../../examples/missing-port.recipe"),
+        ),
+        (
+            "outer-names",
+            include_str!("../../../examples/outer-names.recipe"),
+        ),
+        (
+            "chain-through-replaced-by",
+            include_str!("../../../examples/chain-through-replaced-by.recipe"),
+        ),
+        (
+            "port-onto-gone",
+            include_str!("../../../examples/port-onto-gone.recipe"),
+        ),
+        (
+            "figure-8",
+            include_str!("../../../examples/figure-8.recipe"),
+        ),
+    ];
+    let named = |&(what, text): &(&str, &str)| {
+        let Example { recipe, gives } = parse_example(text).expect("an example file");
+        Named {
+            what: format!("examples/{what}.recipe"),
+            recipe,
+            room: ROOM,
+            prints: gives.expect("what the example gives"),
+        }
+    };
+    FILES.iter().map(named).collect()
+}
+
+const SAMPLE_R: &str = "
+    model top
+      compartment c
+      submodel a of cell
+      replace a.v by c
+    model cell
+      compartment v
+      species s -> v
+";
+
+const R_PRINTED: &str = "flat 2\n1 c - -\n2 a__s - c\n";
+
+fn named(what: &str, recipe: &str, prints: &str) -> Named {
+    Named {
+        what: what.into(),
+        recipe: parse(recipe).expect("a recipe"),
+        room: ROOM,
+        prints: prints.trim_start().to_owned() + "\n",
+    }
+}
+
+/// Sample R with one line changed to others.
+fn changed(what: &str, line: &str, to: &str, prints: &str) -> Named {
+    named(what, &SAMPLE_R.replacen(line, to, 1), prints)
+}
+
+/// So many definitions, each with a submodel of the next.
+fn line(definitions: usize) -> String {
+    let definition = |i: usize| match i + 1 {
+        next if next < definitions => format!("model m{i}\nsubmodel a of m{next}\n"),
+        _ => format!("model m{i}\n"),
+    };
+    (0..definitions).map(definition).collect()
+}
+
+/// 01's own, in its order; the last of them, "17 at 205", is about a table.
+pub fn to_try() -> Vec<Named> {
+    let deletion = "delete a.v";
+    let replacement = "replace a.v by c";
+    let r = named("R", SAMPLE_R, R_PRINTED.trim_end());
+    let with_room = |what: &str, room: usize, prints: &str| Named {
+        what: what.into(),
+        recipe: r.recipe.clone(),
+        room,
+        prints: prints.into(),
+    };
+    let with_409 = with_room("R with 409 output bytes", 409, "refused 13 at 0\n");
+    let with_410 = with_room("R with 410 output bytes", 410, R_PRINTED);
+    vec![
+        named("empty input", "", "refused 1 at 0"),
+        named("only model top", "model top", "flat 0"),
+        r,
+        with_409,
+        with_410,
+        changed(
+            "R with parameter a__s at the end of top",
+            replacement,
+            "replace a.v by c\nparameter a__s",
+            "flat 3\n1 c - -\n3 a__s - -\n2 a___s - c",
+        ),
+        changed(
+            "R with parameter a__s at the beginning of top",
+            "compartment c",
+            "parameter a__s\ncompartment c",
+            "flat 3\n3 a__s - -\n1 c - -\n2 a___s - c",
+        ),
+        changed(
+            "R with c of class 3",
+            "compartment c",
+            "parameter c",
+            "refused 10 at 76",
+        ),
+        changed(
+            "R with a deletion of v for the replacement",
+            replacement,
+            deletion,
+            "refused 12 at 153",
+        ),
+        changed(
+            "that deletion twice",
+            replacement,
+            "delete a.v\ndelete a.v",
+            "refused 9 at 102",
+        ),
+        changed(
+            "submodel a_ for a",
+            "submodel a of",
+            "submodel a_ of",
+            "refused 3 at 51",
+        ),
+        named(
+            "submodel a_ for a, in the replacement, too",
+            &SAMPLE_R.replace("a of", "a_ of").replace("a.v", "a_.v"),
+            "refused 3 at 51",
+        ),
+        named(
+            "model m holding submodel x of m",
+            "model m\nsubmodel x of m",
+            "refused 6 at 0",
+        ),
+        named("five definitions in a line", &line(5), "flat 0"),
+        named("six definitions in a line", &line(6), "refused 7 at 0"),
+        named(
+            "deleting a reaction and, by name, its species reference",
+            "model top
+               submodel a of cell
+               delete a.r
+               delete a.q
+             model cell
+               compartment v
+               species s -> v
+               reaction r
+               species-reference q in r -> s",
+            "flat 2\n1 a__v - -\n2 a__s - a__v",
+        ),
+    ]
+}
+
+/// Where 01's sentences could be read in another way, and where a program might be led astray.
+pub fn edges() -> Vec<Named> {
+    let mut edges = vec![
+        named(
+            "2 goes before an earlier 3",
+            "model top\nbytes 02 63 00 00 00 00 00 00 00 00 00 00 00 09
+             bytes 00 00 00 00 00 00 00 00 00 00 00 00 00 00 00 00 00 00 00 00 00 00 00 00
+             bytes 63",
+            "refused 2 at 51",
+        ),
+        named("first record not kind 1", "compartment c", "refused 2 at 0"),
+        named("zeros at the end", "model top\nbytes 00", "refused 2 at 13"),
+        named(
+            "a blank-submodel port by port name",
+            "model top\ncompartment c\nport p = .c\nport q = :p",
+            "refused 5 at 89",
+        ),
+        named(
+            "an element and a submodel of one name",
+            "model top\ncompartment a\nsubmodel a of cell\nmodel cell",
+            "refused 4 at 51",
+        ),
+        named(
+            "a port and an element of one name",
+            "model top\ncompartment a\nport a = .a",
+            "flat 1\n1 a - -",
+        ),
+        named(
+            "two replaced-bys of an owner that isn't there",
+            "model top\nsubmodel a of cell\nx replaced by a.v\nx replaced by a.v
+             model cell\ncompartment v",
+            "refused 4 at 76",
+        ),
+        named(
+            "a definition that leads to a cycle",
+            "model top\nsubmodel a of x\nmodel x\nsubmodel b of x",
+            "refused 6 at 38",
+        ),
+        named(
+            "a mark through a port that leads nowhere",
+            "model top\nsubmodel a of cell\ndelete a:p
+             model cell\nsubmodel b of low\nport p = b.nothing\nmodel low",
+            "refused 8 at 38",
+        ),
+        named(
+            "a submodel's name as a target",
+            "model top\nsubmodel a of cell\ndelete a.b\nmodel cell\nsubmodel b of low\nmodel low",
+            "refused 8 at 38",
+        ),
+        named(
+            "a port onto a replaced-by's owner in its own definition",
+            "model top\ncompartment c\nport p = .c\nsubmodel a of cell\nc replaced by a.v
+             model cell\ncompartment v",
+            "refused 9 at 114",
+        ),
+        named(
+            "two replaced-bys with one target",
+            "model top\ncompartment c\ncompartment d\nsubmodel a of cell
+             c replaced by a.v\nd replaced by a.v\nmodel cell\ncompartment v",
+            "refused 9 at 152",
+        ),
+        named(
+            "a mark above a port",
+            "model top\nsubmodel a of cell\ndelete a:p\nmodel cell\ncompartment v\nport p = .v",
+            "flat 0",
+        ),
+        named(
+            "a conflict and another class in an unused definition",
+            "model top\nmodel cell\ncompartment v
+             model unused\nparameter k\nsubmodel a of cell\nport p = a.v\nport q = a.v",
+            "flat 0",
+        ),
+        named(
+            "another class in an unused definition",
+            "model top\nmodel cell\ncompartment v
+             model unused\nparameter k\nsubmodel a of cell\nreplace a.v by k",
+            "refused 10 at 140",
+        ),
+        named(
+            "a senseless reference of an unused definition and of a gone element",
+            "model top\nsubmodel a of cell\ndelete a.s\nmodel cell\nspecies s -> t
+             model unused\nspecies s -> t",
+            "flat 0",
+        ),
+        named(
+            "a chain of five steps",
+            "model top\ncompartment c\nsubmodel a of m1\nreplace a.v by c
+             submodel z of other\nc replaced by z.w
+             model m1\ncompartment v\nsubmodel a of m2\nreplace a.v by v
+             model m2\ncompartment v\nsubmodel a of m3\nreplace a.v by v
+             model m3\ncompartment v\nsubmodel a of m4\nreplace a.v by v
+             model m4\ncompartment v\nspecies s -> v
+             model other\ncompartment w",
+            "flat 2\n2 a__a__a__a__s - z__w\n1 z__w - -",
+        ),
+        named(
+            "12 underscores",
+            "model top\nsubmodel a of cell\nmodel cell\nparameter a___________",
+            "flat 1\n3 a____________a___________ - -",
+        ),
+        named(
+            "a submodel's name begins with another's prefix",
+            "model top\nsubmodel a of cell\nsubmodel a__b of cell\nmodel cell\ncompartment v",
+            "flat 2\n1 a___v - -\n1 a__b__v - -",
+        ),
+    ];
+    let random = &Random::new(1);
+    let mut add = |what: &str, recipe: Vec<u8>, prints: &str| {
+        edges.push(Named {
+            what: what.into(),
+            recipe,
+            room: ROOM,
+            prints: prints.into(),
+        });
+    };
+    let top = parse("model top").expect("a recipe");
+    let used = chain(2, 160, true, random).encode();
+    add("a doubling chain of 160", used, "refused 7 at 0\n");
+    let unused = chain(2, 160, false, random).encode();
+    add("the same, not used by main", unused, "flat 0\n");
+    let doubling: String = (0..200)
+        .map(|i| {
+            format!(
+                "model m{i}\nsubmodel a of m{0}\nsubmodel b of m{0}\n",
+                i + 1
+            )
+        })
+        .collect();
+    let doubling = parse(&(doubling + "model m200")).expect("a recipe");
+    add("a doubling chain of 200", doubling, "refused 7 at 0\n");
+    let ports = chain(1, 210, false, random).encode();
+    add("ports through 210 levels, not used", ports, "flat 0\n");
+    let padded = |length: usize| padded(top.clone(), length);
+    let pads: String = (1..=9).map(|i| format!("3 pad{i} - -\n")).collect();
+    let flat = format!("flat 9\n{pads}");
+    add("16,384 bytes", padded(MAX_RECIPE), &flat);
+    add("16,385 bytes", padded(MAX_RECIPE + 1), "refused 1 at 0\n");
+    edges
+}

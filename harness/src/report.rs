@@ -1,0 +1,47 @@
+//! What the programs that check have in common: the tally at their end, the seed of the clock,
+//! and a file for what differs.
+
+use std::process::ExitCode;
+use std::time::{SystemTime, UNIX_EPOCH};
+
+#[derive(Default)]
+pub struct Tally {
+    passed: usize,
+    failed: usize,
+}
+
+impl Tally {
+    pub fn add(&mut self, what: &str, holds: bool) {
+        if holds {
+            self.passed += 1;
+        } else {
+            self.failed += 1;
+            println!("FAILED: {what}");
+        }
+    }
+
+    /// Prints the last line; the program's status comes back.
+    pub fn end(&self) -> ExitCode {
+        println!("{} passed, {} failed", self.passed, self.failed);
+        ExitCode::from(u8::from(self.failed > 0))
+    }
+}
+
+pub fn seed_from_clock() -> u64 {
+    let now = SystemTime::now().duration_since(UNIX_EPOCH);
+    now.map_or(0, |now| now.as_micros() as u64)
+}
+
+/// Saves bytes in hexadecimal beside the program; `xxd -r -p` makes them bytes again.
+pub fn save(bytes: &[u8], file_name: &str) {
+    let hex = |line: &[u8]| line.iter().map(|b| format!("{b:02x}")).collect::<String>() + "\n";
+    let dump: String = bytes.chunks(32).map(hex).collect();
+    let saved = std::env::current_exe().and_then(|program| {
+        let file = program.with_file_name(file_name);
+        std::fs::write(&file, dump).map(|()| file)
+    });
+    match saved {
+        Ok(file) => println!("it is in {}", file.display()),
+        Err(error) => println!("it could not be saved: {error}"),
+    }
+}
