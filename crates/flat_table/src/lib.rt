@@ -1,5 +1,5 @@
 // The flat table and its check: 01's refusals 14 to 17. It stands beneath the composer and knows nothing of recipes.
-// Public calls, which require nothing: bandrolt_check_table, exported to C; is_class, for the floors above.
+// Public calls, which require nothing: bandrolt_check_table, exported to C; is_class, parent_may_be_blank and parent_allowed, for the floors above.
 ghost use mathlib.Core.Path.{_≡_};
 ghost use mathlib.Core.Option.{none, some};
 ghost use Prim.Native.Nat.{_+_, _*_, _≤_, _<_};
@@ -75,13 +75,13 @@ fn first_malformed(table: &[u8], l: Layout, n: usize) -> Found
     Found::Nothing
 }
 
-fn parent_may_be_blank(c: u8) -> bool
+pub fn parent_may_be_blank(c: u8) -> bool
     ensures { λ r. ⌜ r ≡ parentAllowed c none ⌝ }
 {
     !((c == 5) | (c == 7))
 }
 
-fn parent_allowed(c: u8, k: u8) -> bool
+pub fn parent_allowed(c: u8, k: u8) -> bool
     ensures { λ r. ⌜ r ≡ parentAllowed c (some k) ⌝ }
 {
     ((c == 5) | (c == 7)) & (k == 4)

@@ -114,7 +114,7 @@ module _ (s : Recipe) (p : ℕ) where
     at-6-7 (inl k) = record { begins = rw (k, submodelOffset); room = let h : p + (1 + (3 * s .width + 1)) ≤ length (s .bytes) = rw k at fits in omega arith }
     at-6-7 (inr k) = record { begins = rw (k, submodelOffset); room = let h : p + (1 + (3 * s .width + 1)) ≤ length (s .bytes) = rw k at fits in omega arith }
 
-    known : (1 ≤ kind s p) × (kind s p ≤ 7)
+    pub known : (1 ≤ kind s p) × (kind s p ≤ 7)
     unfolding isReadable isKnown
     known =
         let h : leb 1 (kind s p) && leb (kind s p) 7 ≡ true = and-left (leb 1 (kind s p) && leb (kind s p) 7) _ (and-left (leb 1 (kind s p) && leb (kind s p) 7 && leb (next s p) (length (s .bytes))) _ e) in

@@ -18,7 +18,7 @@ use Rattle.flat_table.specs.Classes.{isClass, parentAllowed}
 use Rattle.recipe.specs.Records.{Recipe, kind, places, isModel, isElement, isPort, isSubmodel, isDeletion, isReplacement, isReplacedBy, isMark, firstField, name, class, parentField, referenceField, submodelField, way, targetField}
 use Rattle.recipe.specs.Definitions.{definitions, holder, elements, submodels, isDeclared, elementNamed, ownerOf, elementIn}
 use Rattle.recipe.specs.Reaching.{reaches, Reach}
-use Rattle.recipe.specs.Reading.{atStart, endsWithUnderscore, isWay, isElementForm, isSubmodelForm, isMarkForm, isForm, fault₃, shareNames, repeats, fault₄, isParent, isParentFault, isOwnPortFault, isSubmodelFieldFault, isOwnerFault, isPortFault, isUndeclared, fault₅, fault₆}
+use Rattle.recipe.specs.Reading.{atStart, mostBytes, fault₁, endsWithUnderscore, isWay, isElementForm, isSubmodelForm, isMarkForm, isForm, fault₃, shareNames, repeats, fault₄, isParent, isParentFault, isOwnPortFault, isSubmodelFieldFault, isOwnerFault, isPortFault, isUndeclared, fault₅, fault₆}
 use Rattle.recipe.proofs.Definitions.{in-elements, in-submodels, element-named}
 use Rattle.recipe.proofs.Reaching.{plain-reaches}
 
@@ -27,6 +27,15 @@ pub not-at-start : (b : Bool) → atStart b ≡ none → b ≡ false
 unfolding atStart
 not-at-start true e = not-none (sym e)
 not-at-start false e = refl
+
+-- ---- row 1
+pub length-refused : (s : Recipe) → eqb (length (s .bytes)) 0 || ltb 16384 (length (s .bytes)) ≡ true → fault₁ s ≡ some 0
+unfolding fault₁ atStart mostBytes
+length-refused s e = rw e
+
+pub length-passed : (s : Recipe) → eqb (length (s .bytes)) 0 || ltb 16384 (length (s .bytes)) ≡ false → fault₁ s ≡ none
+unfolding fault₁ atStart mostBytes
+length-passed s e = rw e
 
 module _ (s : Recipe) where
   -- ---- kinds

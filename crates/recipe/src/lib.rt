@@ -1,13 +1,13 @@
 // Recipes: their records and definitions, and the refusals 1 to 6.
-// For the floors above: record_length, is_readable, reading_stop, read_record, first_unformed. They take the name width w, which is 12.
+// For the floors above: length_fault, record_length, is_readable, reading_stop, read_record, first_unformed. They take the name width w, which is 12.
 ghost use mathlib.Core.Path.{_≡_};
 ghost use mathlib.Core.Bool.{true};
-ghost use Prim.Native.Nat.{_+_, _*_, _≤_};
+ghost use Prim.Native.Nat.{ℕ, _+_, _*_, _≤_};
 ghost use lib.ListN.{length};
 ghost use Rattle.names.specs.Names.{fieldOf, optionalOf};
 ghost use Rattle.names.specs.Scans.{foundOf};
 ghost use Rattle.recipe.specs.Records.{Recipe, recordLength, isReadable, stop, field};
-ghost use Rattle.recipe.specs.Reading.{fault₃};
+ghost use Rattle.recipe.specs.Reading.{fault₁, fault₃};
 ghost use Rattle.recipe.specs.Fields.{TargetAt, RecordAt, targetReading, markReading, readingOf};
 use names::Field;
 use names::Found;
@@ -74,6 +74,16 @@ pub enum Record {
 pub enum Read {
     As(Record),
     Refused,
+}
+
+// Whether row 1 refuses the recipe, at its start: it is empty, or over 16,384 bytes. The name width does not matter.
+pub fn length_fault(s: &[u8]) -> Found
+    ensures { λ r. ⌜ ((w : ℕ) → r ≡ foundOf (fault₁ (record { width = w; bytes = now (s .entry) }))) ⌝ }
+{
+    if (s.len() == 0) | (16384 < s.len()) {
+        return Found::At(0);
+    }
+    Found::Nothing
 }
 
 // The bytes of a record of kind k, with its kind byte.

@@ -1,0 +1,3 @@
+-- What the promises about row 6 and the heights of definitions cite.
+pub mod Search
+pub mod Heights
