@@ -1,0 +1,206 @@
+-- Two records have one key and one first field just where row 4 refuses the later: the key's parts, one by one, and row 4 by record number.
+-- Assumes nothing.
+use mathlib.Core.Path.{_≡_, refl, sym, ap, _∙_}
+use mathlib.Core.Bool.{Bool, true, false, cond, _&&_, _||_}
+use mathlib.Core.List.{List, [], _∷_, _++_}
+use Prim.Native.Nat.{ℕ, zero, suc, _+_, _*_, _%_, _≤_, _<_}
+use native.Mathlib.Omega.{arith}
+use lib.ListN.{length, drop, replicate, length-drop, take-append-drop}
+use lib.Dec.{eqb}
+use borrow.Author.Tests.{eqb-true, eqb-false, eq-eqb, ne-eqb}
+use Rattle.names.specs.Lists.{In, first, same, every}
+use Rattle.names.specs.Names.{text, nonZero, isBlank, isName, areNameCharacters}
+use Rattle.names.proofs.Tests.{by-cases, not-both, both-ways, both, and-left, and-right}
+use Rattle.names.proofs.Lists.{same-true, eq-same, take-while}
+use Rattle.name_index.specs.Hash.{hashOf}
+use Rattle.recipe.specs.Records.{Recipe, kind, places, isModel, isElement, isPort, isSubmodel, isReplacedBy, field, name}
+use Rattle.recipe.specs.Definitions.{holder, isDeclared}
+use Rattle.recipe.specs.Reading.{shareNames}
+use Rattle.recipe.proofs.Reading.{readable}
+use Rattle.links.specs.Entries.{tagOf, tagAt, keyOf}
+use Rattle.links.proofs.Places.{known, known-kind}
+
+-- ---- a name field, by its text
+blank-zeros : (f : List ℕ) → isBlank f ≡ true → f ≡ replicate (length f) 0
+unfolding isBlank
+blank-zeros [] e = refl
+blank-zeros (x ∷ f) e =
+    by-cases (eqb 0 x)
+    (λ h. let z : 0 ≡ x = eqb-true 0 x h in let r : f ≡ replicate (length f) 0 = blank-zeros f (rw (h, every) at e) in cc)
+    (λ h. not-both e (rw (h, every)))
+
+-- a name and zeros
+name-field : (f : List ℕ) → isName f ≡ true → f ≡ text f ++ replicate (length (drop (length (text f)) f)) 0
+unfolding isName text
+name-field f e =
+    let t = text f in
+    let b = blank-zeros (drop (length t) f) (and-right (areNameCharacters t) (isBlank (drop (length t) f)) e) in
+    sym (take-append-drop (length t) f) ∙ (ap (λ (l : List ℕ). l ++ drop (length t) f) (take-while nonZero f) ∙ ap (λ (l : List ℕ). t ++ l) b)
+
+-- two name fields of one width are the same where their names are
+pub same-fields : (f g : List ℕ) → isName f ≡ true → isName g ≡ true → length f ≡ length g → same (text f) (text g) ≡ same f g
+same-fields f g a b l =
+    both-ways
+    (λ e.
+    let t : text f ≡ text g = same-true (text f) (text g) e in
+    let n : length (drop (length (text f)) f) ≡ length (drop (length (text g)) g) =
+    length-drop (length (text f)) f ∙ (rw (l, t) (sym (length-drop (length (text g)) g))) in
+    eq-same (name-field f a ∙ (rw (n, t) (sym (name-field g b)))))
+    (λ e. eq-same (ap text (same-true f g e)))
+
+-- ---- the key
+pub same-keys : (t u : ℕ) (f g : List ℕ) → same (keyOf t f ∷ f) (keyOf u g ∷ g) ≡ eqb t u && same f g
+unfolding keyOf
+same-keys t u f g =
+    by-cases (same f g)
+    (λ e.
+    let p : f ≡ g = same-true f g e in
+    let q : eqb (t * 32768 + hashOf f % 32768) (u * 32768 + hashOf g % 32768) ≡ eqb t u =
+    rw p
+    (both-ways
+    (λ h. let z = eqb-true (t * 32768 + hashOf g % 32768) (u * 32768 + hashOf g % 32768) h in eq-eqb t u (omega arith))
+    (λ h. let z = eqb-true t u h in eq-eqb (t * 32768 + hashOf g % 32768) (u * 32768 + hashOf g % 32768) (omega arith))) in
+    ap (λ (b : Bool). b && same f g) q)
+    (λ e. rw e (by-cases (eqb (t * 32768 + hashOf f % 32768) (u * 32768 + hashOf g % 32768)) (λ h. rw h (nothing (eqb t u))) (λ h. rw h (nothing (eqb t u)))))
+  where
+    nothing : (b : Bool) → false ≡ b && false
+    nothing true = refl
+    nothing false = refl
+
+-- ---- the space: by a number a below 5, which says what the kind is to row 4
+home : ℕ → ℕ → ℕ → ℕ
+home a p d = cond (eqb a 0) 0 (cond (eqb a 4) p d)
+
+record Shape (k p d a : ℕ) : Type 0 where
+  low : a < 5
+  tag : tagOf k p d ≡ 8 * home a p d + a
+  model : eqb k 1 ≡ eqb a 0
+  declared : eqb k 2 || eqb k 4 ≡ eqb a 1
+  port : eqb k 3 ≡ eqb a 2
+  replaced : eqb k 7 ≡ eqb a 3
+
+shape : (k p d : ℕ) → 1 ≤ k → k ≤ 7 → (a : ℕ) × Shape k p d a
+unfolding tagOf home
+shape zero p d h l = absurd (omega arith)
+shape (suc zero) p d h l = (0, record { low = omega arith; tag = refl; model = refl; declared = refl; port = refl; replaced = refl })
+shape (suc (suc zero)) p d h l = (1, record { low = omega arith; tag = refl; model = refl; declared = refl; port = refl; replaced = refl })
+shape (suc (suc (suc zero))) p d h l = (2, record { low = omega arith; tag = refl; model = refl; declared = refl; port = refl; replaced = refl })
+shape (suc (suc (suc (suc zero)))) p d h l = (1, record { low = omega arith; tag = refl; model = refl; declared = refl; port = refl; replaced = refl })
+shape (suc (suc (suc (suc (suc zero))))) p d h l = (4, record { low = omega arith; tag = refl; model = refl; declared = refl; port = refl; replaced = refl })
+shape (suc (suc (suc (suc (suc (suc zero)))))) p d h l = (4, record { low = omega arith; tag = refl; model = refl; declared = refl; port = refl; replaced = refl })
+shape (suc (suc (suc (suc (suc (suc (suc zero))))))) p d h l = (3, record { low = omega arith; tag = refl; model = refl; declared = refl; port = refl; replaced = refl })
+shape (suc (suc (suc (suc (suc (suc (suc (suc k)))))))) p d h l = absurd (omega arith)
+
+two-parts : (x y a b : ℕ) → a < 5 → b < 5 → eqb (8 * x + a) (8 * y + b) ≡ eqb x y && eqb a b
+two-parts x y a b h l =
+    both-ways
+    (λ e. let z = eqb-true (8 * x + a) (8 * y + b) e in both (eq-eqb x y (omega arith)) (eq-eqb a b (omega arith)))
+    (λ e.
+    let u = eqb-true x y (and-left (eqb x y) (eqb a b) e) in
+    let v = eqb-true a b (and-right (eqb x y) (eqb a b) e) in
+    eq-eqb (8 * x + a) (8 * y + b) (omega arith))
+
+-- one space: two models, or two of one definition that share their names
+spaces : ℕ → ℕ → Bool → Bool
+spaces a b y = (eqb a 0 && eqb b 0) || (y && ((eqb a 1 && eqb b 1) || (eqb a 2 && eqb b 2) || (eqb a 3 && eqb b 3)))
+
+other : (x y : Bool) → x && false ≡ y && false
+other true true = refl
+other true false = refl
+other false true = refl
+other false false = refl
+
+other-false : (y : Bool) → false ≡ y && false
+other-false true = refl
+other-false false = refl
+
+agree : (a b q p d e : ℕ) → a < 5 → b < 5 → (q ≡ p → ⊥) → eqb (home a q d) (home b p e) && eqb a b ≡ spaces a b (eqb d e)
+unfolding home spaces
+agree zero zero q p d e h l n = refl
+agree (suc zero) (suc zero) q p d e h l n = refl
+agree (suc (suc zero)) (suc (suc zero)) q p d e h l n = refl
+agree (suc (suc (suc zero))) (suc (suc (suc zero))) q p d e h l n = refl
+agree (suc (suc (suc (suc zero)))) (suc (suc (suc (suc zero)))) q p d e h l n = rw (ne-eqb q p n) (other-false (eqb d e))
+agree zero (suc zero) q p d e h l n = other (eqb 0 e) (eqb d e)
+agree zero (suc (suc zero)) q p d e h l n = other (eqb 0 e) (eqb d e)
+agree zero (suc (suc (suc zero))) q p d e h l n = other (eqb 0 e) (eqb d e)
+agree zero (suc (suc (suc (suc zero)))) q p d e h l n = other (eqb 0 p) (eqb d e)
+agree (suc zero) zero q p d e h l n = other (eqb d 0) (eqb d e)
+agree (suc zero) (suc (suc zero)) q p d e h l n = other (eqb d e) (eqb d e)
+agree (suc zero) (suc (suc (suc zero))) q p d e h l n = other (eqb d e) (eqb d e)
+agree (suc zero) (suc (suc (suc (suc zero)))) q p d e h l n = other (eqb d p) (eqb d e)
+agree (suc (suc zero)) zero q p d e h l n = other (eqb d 0) (eqb d e)
+agree (suc (suc zero)) (suc zero) q p d e h l n = other (eqb d e) (eqb d e)
+agree (suc (suc zero)) (suc (suc (suc zero))) q p d e h l n = other (eqb d e) (eqb d e)
+agree (suc (suc zero)) (suc (suc (suc (suc zero)))) q p d e h l n = other (eqb d p) (eqb d e)
+agree (suc (suc (suc zero))) zero q p d e h l n = other (eqb d 0) (eqb d e)
+agree (suc (suc (suc zero))) (suc zero) q p d e h l n = other (eqb d e) (eqb d e)
+agree (suc (suc (suc zero))) (suc (suc zero)) q p d e h l n = other (eqb d e) (eqb d e)
+agree (suc (suc (suc zero))) (suc (suc (suc (suc zero)))) q p d e h l n = other (eqb d p) (eqb d e)
+agree (suc (suc (suc (suc zero)))) zero q p d e h l n = other (eqb q 0) (eqb d e)
+agree (suc (suc (suc (suc zero)))) (suc zero) q p d e h l n = other (eqb q e) (eqb d e)
+agree (suc (suc (suc (suc zero)))) (suc (suc zero)) q p d e h l n = other (eqb q e) (eqb d e)
+agree (suc (suc (suc (suc zero)))) (suc (suc (suc zero))) q p d e h l n = other (eqb q e) (eqb d e)
+agree (suc (suc (suc (suc (suc a))))) b q p d e h l n = absurd (omega arith)
+agree zero (suc (suc (suc (suc (suc b))))) q p d e h l n = absurd (omega arith)
+agree (suc zero) (suc (suc (suc (suc (suc b))))) q p d e h l n = absurd (omega arith)
+agree (suc (suc zero)) (suc (suc (suc (suc (suc b))))) q p d e h l n = absurd (omega arith)
+agree (suc (suc (suc zero))) (suc (suc (suc (suc (suc b))))) q p d e h l n = absurd (omega arith)
+agree (suc (suc (suc (suc zero)))) (suc (suc (suc (suc (suc b))))) q p d e h l n = absurd (omega arith)
+
+-- one of the spaces of a definition, and that of the models
+space-in : (a p h d b : ℕ) → a < 5 → b < 5 → (b ≡ 0 → ⊥) → (b ≡ 4 → ⊥) → eqb (8 * home a p h + a) (8 * d + b) ≡ eqb h d && eqb a b
+unfolding home
+space-in a p h d b l m u v =
+    two-parts (home a p h) d a b l m
+    ∙ by-cases (eqb a b)
+    (λ e.
+    let z : a ≡ b = eqb-true a b e in
+    rw (e, ne-eqb a 0 (λ q. u (sym z ∙ q)), ne-eqb a 4 (λ q. v (sym z ∙ q))))
+    (λ e. rw e (other (eqb (home a p h) d) (eqb h d)))
+
+space-model : (a p h : ℕ) → eqb (8 * home a p h + a) 0 ≡ eqb a 0
+unfolding home
+space-model a p h =
+    by-cases (eqb a 0)
+    (λ e. let z : a ≡ 0 = eqb-true a 0 e in rw (e, z))
+    (λ e. let n = eqb-false a 0 e in ne-eqb (8 * home a p h + a) 0 (λ q. n (omega arith)) ∙ sym e)
+
+module _ (s : Recipe) where
+  -- row 4, without the order of the two and the names
+  abbrev pub sharing : ℕ → ℕ → Bool
+  sharing q p = (isModel s q && isModel s p) || (eqb (holder s q) (holder s p) && shareNames s q p)
+
+  -- two records have one space just where row 4 looks at their names
+  pub same-tags : (q p : ℕ) → In q (places s) → In p (places s) → (q ≡ p → ⊥) → eqb (tagAt s q) (tagAt s p) ≡ sharing q p
+  unfolding tagAt isModel shareNames isDeclared isElement isSubmodel isPort isReplacedBy spaces
+  same-tags q p i j n =
+      let kq = known-kind (kind s q) (known s q (readable s q i)) in
+      let kp = known-kind (kind s p) (known s p (readable s p j)) in
+      let a = shape (kind s q) q (holder s q) (kq .0) (kq .1) in
+      let b = shape (kind s p) p (holder s p) (kp .0) (kp .1) in
+      rw (a .1 .tag, b .1 .tag, a .1 .model, b .1 .model, a .1 .declared, b .1 .declared, a .1 .port, b .1 .port, a .1 .replaced, b .1 .replaced)
+      (two-parts _ _ (a .0) (b .0) (a .1 .low) (b .1 .low)
+      ∙ agree (a .0) (b .0) q p (holder s q) (holder s p) (a .1 .low) (b .1 .low) n)
+
+  -- ---- which records have their name in a space
+  pub tag-model : (p : ℕ) → In p (places s) → eqb (tagAt s p) 0 ≡ isModel s p
+  unfolding tagAt isModel
+  tag-model p i =
+      let k = known-kind (kind s p) (known s p (readable s p i)) in
+      let a = shape (kind s p) p (holder s p) (k .0) (k .1) in
+      rw (a .1 .tag, a .1 .model) (space-model (a .0) p (holder s p))
+
+  pub tag-declared : (p d : ℕ) → In p (places s) → eqb (tagAt s p) (8 * d + 1) ≡ eqb (holder s p) d && isDeclared s p
+  unfolding tagAt isDeclared isElement isSubmodel
+  tag-declared p d i =
+      let k = known-kind (kind s p) (known s p (readable s p i)) in
+      let a = shape (kind s p) p (holder s p) (k .0) (k .1) in
+      rw (a .1 .tag, a .1 .declared) (space-in (a .0) p (holder s p) d 1 (a .1 .low) (omega arith) (λ q. omega arith) (λ q. omega arith))
+
+  pub tag-port : (p d : ℕ) → In p (places s) → eqb (tagAt s p) (8 * d + 2) ≡ eqb (holder s p) d && isPort s p
+  unfolding tagAt isPort
+  tag-port p d i =
+      let k = known-kind (kind s p) (known s p (readable s p i)) in
+      let a = shape (kind s p) p (holder s p) (k .0) (k .1) in
+      rw (a .1 .tag, a .1 .port) (space-in (a .0) p (holder s p) d 2 (a .1 .low) (omega arith) (λ q. omega arith) (λ q. omega arith))

@@ -1,0 +1,164 @@
+-- The records of a recipe by number: the places as a list, one more place at a time, and tables that are filled by place.
+-- Assumes nothing.
+use mathlib.Core.Path.{_≡_, refl, sym, ap, _∙_}
+use mathlib.Core.Logic.{inl, inr}
+use mathlib.Core.Bool.{Bool, true, _&&_}
+use mathlib.Core.Option.{some, Option·map}
+use mathlib.Core.List.{List, [], _∷_}
+use Prim.Native.Nat.{ℕ, zero, suc, _+_, _≤_, _<_}
+use native.Mathlib.Omega.{arith}
+use lib.ListN.{length, getD, drop, set, length-set, length-drop}
+use lib.Seq.{getD-set-same, getD-set-other}
+use lib.Dec.{leb}
+use borrow.Author.Tests.{leb-true}
+use Rattle.names.specs.Lists.{In, keep, first}
+use Rattle.names.specs.Scans.{scan, firstFrom}
+use Rattle.names.proofs.Tests.{by-cases, three, and-left, and-right}
+use Rattle.names.proofs.Lists.{at-cons}
+use Rattle.names.proofs.ListOrder.{Rising, rising-in}
+use Rattle.recipe.specs.Records.{Recipe, kind, isKnown, bodyLengths, recordLength, next, isReadable, placesFrom, places}
+use Rattle.recipe.proofs.Reading.{places-suffice, places-rise, readable, readable-fits}
+
+-- ---- lists by number
+pub at-in : (xs : List ℕ) (i : ℕ) → i < length xs → In (getD xs i 0) xs
+at-in [] i h = absurd (omega arith)
+at-in (x ∷ xs) zero h = inl refl
+at-in (x ∷ xs) (suc i) h = inr (at-in xs i (omega arith))
+
+pub in-at : (xs : List ℕ) (q : ℕ) → In q xs → (k : ℕ) × (k < length xs) × (getD xs k 0 ≡ q)
+in-at [] q m = absurd m
+in-at (x ∷ xs) q (inl e) = (0, omega arith, sym e)
+in-at (x ∷ xs) q (inr m) = let r = in-at xs q m in (suc (r .0), omega (arith, r .1), r .2)
+
+pub rising-at : (p : ℕ) (xs : List ℕ) (i j : ℕ) → Rising p xs → i < j → j < length xs → getD xs i 0 < getD xs j 0
+rising-at p [] i j r l h = absurd (omega arith)
+rising-at p (x ∷ xs) i zero r l h = absurd (omega arith)
+rising-at p (x ∷ xs) zero (suc j) r l h = let k = rising-in (suc x) xs (getD xs j 0) (r .1) (at-in xs j (omega arith)) in omega arith
+rising-at p (x ∷ xs) (suc i) (suc j) r l h = rising-at (suc x) xs i j (r .1) (omega arith) (omega arith)
+
+-- what is left of a list begins with x: that is the next, and what is left behind it
+pub drop-next : (i : ℕ) (xs : List ℕ) (x : ℕ) (ys : List ℕ) → drop i xs ≡ x ∷ ys → (i < length xs) × (getD xs i 0 ≡ x) × (drop (i + 1) xs ≡ ys)
+drop-next i xs x ys e =
+    let l : i < length xs = (let k = length-drop i xs in let m : length (drop i xs) ≡ suc (length ys) = ap length e in omega arith) in
+    let c : getD xs i 0 ∷ drop (i + 1) xs ≡ x ∷ ys = sym (at-cons xs i l) ∙ e in
+    (l, cc, cc)
+
+pub drop-over : (i : ℕ) (xs : List ℕ) → drop i xs ≡ [] → length xs ≤ i
+drop-over i xs e = let k = length-drop i xs in let m : length (drop i xs) ≡ 0 = ap length e in omega arith
+
+-- the first of those that are kept, and a first that looks at nothing but the list
+pub first-keep : (t u : ℕ → Bool) (xs : List ℕ) → first t (keep u xs) ≡ first (λ x. u x && t x) xs
+first-keep t u [] = refl
+first-keep t u (x ∷ xs) =
+    by-cases (u x)
+    (λ e. by-cases (t x) (λ h. rw (e, keep, h, first)) (λ h. rw (e, keep, h, first) (first-keep t u xs)))
+    (λ e. rw (e, keep, first) (first-keep t u xs))
+
+pub first-same : (t u : ℕ → Bool) (xs : List ℕ) → ((x : ℕ) → In x xs → t x ≡ u x) → first t xs ≡ first u xs
+first-same t u [] h = refl
+first-same t u (x ∷ xs) h =
+    let e : t x ≡ u x = h x (inl refl) in
+    by-cases (u x)
+    (λ k. rw (e ∙ k, k, first))
+    (λ k. rw (e ∙ k, k, first) (first-same t u xs (λ y i. h y (inr i))))
+
+-- the first of a list, by number
+first-numbered-from : (t : ℕ → Bool) (zs : List ℕ) (i : ℕ) (xs : List ℕ) → drop i zs ≡ xs
+    → first t xs ≡ Option·map (λ k. getD zs k 0) (firstFrom (λ k. t (getD zs k 0)) i (length xs))
+unfolding firstFrom
+first-numbered-from t zs i [] e = refl
+first-numbered-from t zs i (x ∷ xs) e =
+    let n = drop-next i zs x xs e in
+    let g : getD zs i 0 ≡ x = n .1 in
+    let o : suc i ≡ i + 1 = omega arith in
+    let d : drop (suc i) zs ≡ xs = ap (λ (k : ℕ). drop k zs) o ∙ n .2 in
+    by-cases (t x)
+    (λ h. rw (h, first, g, h) (ap some (sym g)))
+    (λ h. rw (h, first, g, h) (first-numbered-from t zs (suc i) xs d))
+
+pub first-numbered : (t : ℕ → Bool) (xs : List ℕ) → first t xs ≡ Option·map (λ k. getD xs k 0) (scan (λ k. t (getD xs k 0)) (length xs))
+unfolding scan
+first-numbered t xs = first-numbered-from t xs 0 xs refl
+
+-- ---- records
+pub known-kind : (k : ℕ) → isKnown k ≡ true → (1 ≤ k) × (k ≤ 7)
+unfolding isKnown
+known-kind k e = (leb-true 1 k (and-left (leb 1 k) (leb k 7) e), leb-true k 7 (and-right (leb 1 k) (leb k 7) e))
+
+-- a record that is read has a kind byte and a name field at least
+kind-least : (w k : ℕ) → 1 ≤ k → k ≤ 7 → w + 1 ≤ recordLength w k
+unfolding recordLength bodyLengths
+kind-least w zero a b = absurd (omega arith)
+kind-least w (suc zero) a b = omega arith
+kind-least w (suc (suc zero)) a b = omega arith
+kind-least w (suc (suc (suc zero))) a b = omega arith
+kind-least w (suc (suc (suc (suc zero)))) a b = omega arith
+kind-least w (suc (suc (suc (suc (suc zero))))) a b = omega arith
+kind-least w (suc (suc (suc (suc (suc (suc zero)))))) a b = omega arith
+kind-least w (suc (suc (suc (suc (suc (suc (suc zero))))))) a b = omega arith
+kind-least w (suc (suc (suc (suc (suc (suc (suc (suc k)))))))) a b = absurd (omega arith)
+
+module _ (s : Recipe) where
+  pub known : (p : ℕ) → isReadable s p ≡ true → isKnown (kind s p) ≡ true
+  unfolding isReadable
+  known p e = and-left (isKnown (kind s p)) _ (and-left _ _ e)
+
+  pub next-least : (p : ℕ) → isReadable s p ≡ true → p + (s .width + 1) ≤ next s p
+  unfolding next
+  next-least p e = let k = known-kind (kind s p) (known p e) in omega (arith, kind-least (s .width) (kind s p) (k .0) (k .1))
+
+  pub place-room : (p : ℕ) → In p (places s) → p + (s .width + 1) ≤ length (s .bytes)
+  place-room p i = let e = readable s p i in omega (arith, next-least p e, readable-fits s p e)
+
+  -- the places from p on
+  abbrev pub rest : ℕ → List ℕ
+  rest p = placesFrom (length (s .bytes)) s p
+
+  pub rest-more : (p : ℕ) → isReadable s p ≡ true → rest p ≡ p ∷ rest (next s p)
+  unfolding placesFrom
+  rest-more p e = places-suffice s (length (s .bytes)) (suc (length (s .bytes))) p (omega arith) (omega arith) ∙ one
+    where
+      one : placesFrom (suc (length (s .bytes))) s p ≡ p ∷ placesFrom (length (s .bytes)) s (next s p)
+      one = rw (e, placesFrom)
+
+  pub rest-start : places s ≡ rest 0
+  unfolding places
+  rest-start = refl
+
+  -- ---- by number
+  pub numbered-in : (i : ℕ) → i < length (places s) → In (getD (places s) i 0) (places s)
+  numbered-in i h = at-in (places s) i h
+
+  pub numbered-less : (i j : ℕ) → i < j → j < length (places s) → getD (places s) i 0 < getD (places s) j 0
+  numbered-less i j l h = rising-at 0 (places s) i j (places-rise s) l h
+
+  pub less-numbered : (i j : ℕ) → i < length (places s) → j < length (places s) → getD (places s) i 0 < getD (places s) j 0 → i < j
+  less-numbered i j h k l =
+      three i j (λ u. u) (λ u. absurd (let e : getD (places s) i 0 ≡ getD (places s) j 0 = ap (λ (x : ℕ). getD (places s) x 0) u in omega arith))
+      (λ u. absurd (let m = numbered-less j i u h in omega arith))
+
+  -- a table that is filled by place, record by record
+  pub record Filling (f : ℕ → ℕ) (out₀ out : List ℕ) (i : ℕ) : Type 0 where
+    pub long : length out ≡ length out₀
+    pub done : (j : ℕ) → j < i → getD out (getD (places s) j 0) 0 ≡ f (getD (places s) j 0)
+
+  pub filling-start : (f : ℕ → ℕ) (out : List ℕ) → Filling f out out 0
+  filling-start f out = record { long = refl; done = λ j h. absurd (omega arith) }
+
+  pub filling-one : {f : ℕ → ℕ} {out₀ out : List ℕ} {i : ℕ} (p x : ℕ) → Filling f out₀ out i → i < length (places s) → p ≡ getD (places s) i 0
+      → p < length out → x ≡ f p → Filling f out₀ (set out p x) (i + 1)
+  filling-one {f} {out₀} {out} {i} p x r h e l v = record {
+    long = length-set out p x ∙ r .long;
+    done = λ j u.
+        three j i
+        (λ z. getD-set-other out p (getD (places s) j 0) x 0 (λ q. let m = numbered-less j i z h in omega arith) ∙ r .done j z)
+        (λ z. let g : getD (places s) j 0 ≡ p = ap (λ (k : ℕ). getD (places s) k 0) z ∙ sym e in
+        ap (λ (k : ℕ). getD (set out p x) k 0) g ∙ (getD-set-same out p x 0 l ∙ (v ∙ ap f (sym g))))
+        (λ z. absurd (omega arith));
+  }
+
+  pub filling-end : {f : ℕ → ℕ} {out₀ out : List ℕ} {i : ℕ} → Filling f out₀ out i → length (places s) ≤ i
+      → (p : ℕ) → In p (places s) → getD out p 0 ≡ f p
+  filling-end {f} {out₀} {out} {i} r h p m =
+      let k = in-at (places s) p m in
+      ap (λ (x : ℕ). getD out x 0) (sym (k .2)) ∙ (r .done (k .0) (omega (arith, k .1)) ∙ ap f (k .2))

@@ -1,0 +1,29 @@
+-- `links::next_at` meets its contract: from the record that is named.
+-- Assumes nothing.
+use native.Mathlib.Omega.{arith}
+use Rattle.links.proofs.Declarations.{room}
+use Rattle.links.proofs.Linking.{pointing}
+use Rattle.links.proofs.Targets.{next-other, named-low, next-link}
+use Rattle.links.proofs.next_at.Statement.{statement}
+use Rattle.links.proofs.next_at.Tie as tie
+use Rattle.links.proofs.place_of.Reads as place-of-reads
+use Rattle.links.proofs.target_of.Reads as target-of-reads
+
+shared-slice-read-k : tie.Need-shared-slice-read-k
+shared-slice-read-k c = let x = c .before .before .before .before .before .before .pre .0 in omega (arith, room x)
+
+returns : tie.Need-returns
+returns c = let x = c .before .before .before .before .before .before .before .pre .0 in next-other x (c .if1 .taken)
+
+target-of-requires : tie.Need-target-of-requires
+target-of-requires c κs = (c .before .before .before .before .before .before .before .pre .0, (c .before .before .before .before .before .before .before .pre .1, pointing (c .if1 .left)))
+
+place-of-requires : tie.Need-place-of-requires
+place-of-requires c κs = let x = c .before .before .before .before .before .before .before .before .pre .0 in named-low (x .named .indexed .clear) _ (c .target-of .ensures)
+
+returns-2 : tie.Need-returns-2
+returns-2 c = let x = c .before .before .before .before .before .before .before .before .before .pre .0 in next-link x (pointing (c .before .before .if1 .left)) (c .before .target-of .ensures) (c .place-of .ensures)
+
+pub next-at-spec : {M : Type 1} → statement M
+next-at-spec =
+    tie.close (tie.spec shared-slice-read-k returns target-of-requires place-of-requires returns-2)
