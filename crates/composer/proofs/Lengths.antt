@@ -15,10 +15,10 @@ use Rattle.recipe.specs.Records.{Recipe, name}
 use Rattle.recipe.specs.Definitions.{main, submodels, modelOf}
 use Rattle.recipe.specs.Reading.{fault₃, fault₅}
 use Rattle.recipe.proofs.Definitions.{name-short}
-use Rattle.tree.specs.Tree.{Node, treeElements, parentOf, referenceOf}
+use Rattle.tree.specs.Tree.{Node, treeElements, parentOf, referenceOf, Submodels}
 use Rattle.tree.specs.Faults.{fault₇}
 use Rattle.tree.proofs.Nodes.{in-tree, parent-in, reference-in}
-use Rattle.tree.proofs.Instances.{Submodels, instance-path, at-most-four}
+use Rattle.tree.proofs.Instances.{instance-path, at-most-four}
 use Rattle.marks.specs.Marks.{survivors, chainEnd}
 use Rattle.marks.proofs.Chain.{chain-in}
 use Rattle.marks.proofs.Survivors.{survivor}

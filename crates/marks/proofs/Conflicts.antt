@@ -30,15 +30,15 @@ use Rattle.marks.proofs.Chain.{Steps, chain-ends, chain-more, chain-is,
 
 module _ (s : Recipe) where
   -- ---- clashes are conflicts
-  marks-conflict : (q r : Node) → marksClash s q r ≡ true → conflict s q r ≡ true
+  pub marks-conflict : (q r : Node) → marksClash s q r ≡ true → conflict s q r ≡ true
   unfolding conflict
   marks-conflict q r e = or-left _ _ (or-left _ _ (or-left _ _ (or-left _ _ (or-left (marksClash s q r) _ e))))
 
-  owner-conflict : (q r : Node) → ownerClash s q r ≡ true → conflict s q r ≡ true
+  pub owner-conflict : (q r : Node) → ownerClash s q r ≡ true → conflict s q r ≡ true
   unfolding conflict
   owner-conflict q r e = or-left _ _ (or-left _ _ (or-left _ _ (or-left _ _ (or-right (marksClash s q r) (ownerClash s q r) e))))
 
-  owner-conflict′ : (q r : Node) → ownerClash s q r ≡ true → conflict s r q ≡ true
+  pub owner-conflict′ : (q r : Node) → ownerClash s q r ≡ true → conflict s r q ≡ true
   unfolding conflict
   owner-conflict′ q r e = or-left _ _ (or-left _ _ (or-left _ _ (or-right (marksClash s r q || ownerClash s r q) (ownerClash s q r) e)))
 

@@ -1,7 +1,7 @@
 -- Survivors: a child goes with its parent, so a survivor's parent survives; and where row 12 does not apply, so does the end of the chain
 -- from its reference, of a class that its own allows. Assumes nothing.
 use mathlib.Core.Path.{_≡_, refl, sym, _∙_}
-use mathlib.Core.Logic.{_⊎_, ⊎-elim}
+use mathlib.Core.Logic.{⊎-elim}
 use Prim.Native.Nat.{ℕ, _<_}
 use mathlib.Core.Bool.{Bool, true, false, not, _&&_, false≢true, true≢false}
 use mathlib.Core.Option.{none, some}

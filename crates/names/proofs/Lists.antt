@@ -1,7 +1,7 @@
 -- The laws of the list functions: what is in a list that they make, and what their answers say. Assumes nothing.
 use mathlib.Core.Path.{_≡_, refl, sym, ap, _∙_}
 use mathlib.Core.Logic.{_⊎_, inl, inr, ⊎-elim}
-use mathlib.Core.Bool.{Bool, true, false, not, false≢true, true≢false}
+use mathlib.Core.Bool.{Bool, true, false, not, _||_, or-true, false≢true, true≢false}
 use mathlib.Core.Option.{none, some}
 use mathlib.Core.List.{List, [], _∷_, _++_, map}
 use Prim.Native.Nat.{ℕ, zero, suc, _+_, _*_, _≤_, _<_}
@@ -12,7 +12,7 @@ use lib.ListN.{length, take, drop, getD, replicate, length-append, length-replic
 use lib.Seq.{drop-cons}
 use lib.Dec.{eqb}
 use borrow.Author.Tests.{eq-eqb, ne-eqb, eqb-true}
-use Rattle.names.specs.Lists.{In, keep, keepWhile, any, every, first, lastOr, joined, isSome, same, begins, padded}
+use Rattle.names.specs.Lists.{In, keep, keepWhile, any, every, first, lastOr, joined, isSome, same, begins, padded, among}
 use Rattle.names.proofs.Tests.{by-cases, not-both, and-left, and-right, not-none, the-some}
 
 module _ {A : Type 0} where
@@ -277,3 +277,56 @@ every-append t (x ∷ xs) ys p q =
 pub every-replicate : {A : Type 0} (t : A → Bool) (k : ℕ) (a : A) → t a ≡ true → every t (replicate k a) ≡ true
 every-replicate t zero a e = refl
 every-replicate t (suc k) a e = rw (e, every) (every-replicate t k a e)
+
+-- ---- any, by its parts
+module _ {A : Type 0} where
+  pub any-cong : (t u : A → Bool) (xs : List A) → ((a : A) → In a xs → t a ≡ u a) → any t xs ≡ any u xs
+  any-cong t u [] h = refl
+  any-cong t u (x ∷ xs) h =
+      by-cases (u x)
+      (λ e. rw (h x (inl refl) ∙ e, any, e))
+      (λ e. rw (h x (inl refl) ∙ e, any, e) (any-cong t u xs (λ a i. h a (inr i))))
+
+  pub any-or : (t u : A → Bool) (xs : List A) → any (λ a. t a || u a) xs ≡ any t xs || any u xs
+  any-or t u [] = refl
+  any-or t u (x ∷ xs) =
+      by-cases (t x)
+      (λ e. rw (e, any))
+      (λ e. by-cases (u x)
+      (λ f. rw (e, any, f) (sym (or-true (any t xs))))
+      (λ f. rw (e, any, f) (any-or t u xs)))
+
+  pub any-cons : (t : A → Bool) (x : A) (xs : List A) → any t (x ∷ xs) ≡ t x || any t xs
+  any-cons t x xs = by-cases (t x) (λ e. rw (e, any)) (λ e. rw (e, any))
+
+pub any-one : {A : Type 0} (t : A → Bool) (x : A) → any t (x ∷ []) ≡ t x
+any-one t x = by-cases (t x) (λ e. rw (e, any)) (λ e. rw (e, any))
+
+pub any-two : {A : Type 0} (t : A → Bool) (x y : A) → any t (x ∷ y ∷ []) ≡ t x || t y
+any-two t x y = by-cases (t x) (λ e. rw (e, any)) (λ e. rw (e, any) (any-one t y))
+
+-- to be one of a list, as a test
+pub among-any : (c : ℕ) (xs : List ℕ) → among c xs ≡ any (eqb c) xs
+among-any c [] = refl
+among-any c (x ∷ xs) = by-cases (eqb c x) (λ e. rw (e, among, any)) (λ e. rw (e, among, any) (among-any c xs))
+
+-- ---- what stands at a position is in the list, and what is in the list stands at one
+pub getD-in : {A : Type 0} (l : List A) (i : ℕ) (d : A) → i < length l → In (getD l i d) l
+getD-in [] i d h = absurd (omega arith)
+getD-in (x ∷ l) zero d h = inl refl
+getD-in (x ∷ l) (suc i) d h = inr (getD-in l i d (omega arith))
+
+pub in-getD : {A : Type 0} (l : List A) (a d : A) → In a l → (m : ℕ) × ((m < length l) × (a ≡ getD l m d))
+in-getD [] a d i = absurd i
+in-getD (x ∷ l) a d (inl p) = (0, (omega arith, p))
+in-getD (x ∷ l) a d (inr i) = let r = in-getD l a d i in (suc (r .0), (omega (arith, r .1 .0), r .1 .1))
+
+-- ---- one end, one beginning
+pub append-cancel : (a b t : List ℕ) → a ++ t ≡ b ++ t → a ≡ b
+append-cancel [] [] t e = refl
+append-cancel [] (y ∷ b) t e = absurd (let l : length t ≡ length (y ∷ b ++ t) = ap length e in omega (arith, length-append b t))
+append-cancel (x ∷ a) [] t e = absurd (let l : length (x ∷ a ++ t) ≡ length t = ap length e in omega (arith, length-append a t))
+append-cancel (x ∷ a) (y ∷ b) t e =
+    let h : x ≡ y = cc in
+    let r : a ≡ b = append-cancel a b t (let z : a ++ t ≡ b ++ t = cc in z) in
+    cc

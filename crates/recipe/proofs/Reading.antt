@@ -12,7 +12,7 @@ use lib.Dec.{leb, ltb}
 use borrow.Author.Tests.{ltb-false, leb-true, lt-leb, le-leb, eq-eqb, ne-eqb}
 use Rattle.names.specs.Lists.{In, first}
 use Rattle.names.proofs.Tests.{by-cases, not-none, and-left, and-right, or-cases, and-false}
-use Rattle.names.proofs.ListOrder.{Rising, rising-from, first-lowest}
+use Rattle.names.proofs.ListOrder.{Rising, rising-from, rising-in, first-lowest}
 use Rattle.recipe.specs.Records.{Recipe, isKnown, kind, isModel, recordLength, next, isReadable, placesFrom, stopFrom, places, stop}
 use Rattle.recipe.specs.Reading.{fault₂}
 
@@ -74,6 +74,9 @@ module _ (s : Recipe) where
       (λ e. rw (e, placesFrom) (omega arith, rising-from (suc p) (next s p) (placesFrom n s (next s p)) (next-more p) (places-rise-from n (next s p))))
       (λ e. rw (e, placesFrom) tt)
 
+  pub places-least : (n p x : ℕ) → In x (placesFrom n s p) → p ≤ x
+  places-least n p x i = rising-in p (placesFrom n s p) x (places-rise-from n p) i
+
   pub places-rise : Rising 0 (places s)
   unfolding places
   places-rise = places-rise-from (length (s .bytes)) 0
@@ -93,6 +96,34 @@ module _ (s : Recipe) where
   pub readable : (q : ℕ) → In q (places s) → isReadable s q ≡ true
   unfolding places
   readable q i = readable-from (length (s .bytes)) 0 q i
+
+  -- a record's place is in the recipe
+  pub place-low : (p : ℕ) → In p (places s) → p < length (s .bytes)
+  place-low p i = omega (arith, readable-fits p (readable p i), next-more p)
+
+  -- between a record and the next there is none
+  places-gap : (n p₀ p x : ℕ) → In p (placesFrom n s p₀) → In x (placesFrom n s p₀) → x < next s p → x ≤ p
+  unfolding placesFrom
+  places-gap zero p₀ p x i j h = absurd i
+  places-gap (suc n) p₀ p x i j h =
+      by-cases (isReadable s p₀)
+      (λ e.
+      ⊎-elim
+      (λ (a : p ≡ p₀). ⊎-elim (λ (b : x ≡ p₀). omega arith)
+      (λ (b : In x (placesFrom n s (next s p₀))). let l : next s p₀ ≤ x = places-least n (next s p₀) x b in let q : next s p ≡ next s p₀ = ap (next s) a in absurd (omega arith))
+      (rw (e, placesFrom) at j))
+      (λ (a : In p (placesFrom n s (next s p₀))). ⊎-elim (λ (b : x ≡ p₀). omega (arith, places-least n (next s p₀) p a, next-more p₀))
+      (λ (b : In x (placesFrom n s (next s p₀))). places-gap n (next s p₀) p x a b h)
+      (rw (e, placesFrom) at j))
+      (rw (e, placesFrom) at i))
+      (λ e. absurd (rw (e, placesFrom) at i))
+
+  pub before-this : (p x : ℕ) → In p (places s) → In x (places s) → x < next s p → x ≤ p
+  unfolding places
+  before-this p x i j l = places-gap (length (s .bytes)) 0 p x i j l
+
+  pub places-between : (p x : ℕ) → In p (places s) → In x (places s) → x < next s p → (x ≡ p → ⊥) → x < p
+  places-between p x i j l z = omega (arith, before-this p x i j l)
 
   -- ---- reading stops in the recipe, and where row 2 does not apply, at its end
   stop-fits : (n p : ℕ) → p ≤ length (s .bytes) → stopFrom n s p ≤ length (s .bytes)

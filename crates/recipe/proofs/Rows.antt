@@ -199,6 +199,15 @@ module _ (s : Recipe) where
         let k : kind s p ≡ 7 = eqb-true (kind s p) 7 b in
         owner-of p (rw k) (or-none-right (isSubmodelFieldFault s p) _ (rw k at (declared p i)))
 
+    -- by its name
+    pub owner-name : (p : ℕ) → In p (places s) → isReplacedBy s p ≡ true → name s (ownerOf s p) ≡ text (firstField s p)
+    unfolding isUndeclared isOwnerFault isModel isElement isPort isSubmodel isDeletion isReplacedBy ownerOf
+    owner-name p i b =
+        let k : kind s p ≡ 7 = eqb-true (kind s p) 7 b in
+        let o = elementNamed s (holder s p) (text (firstField s p)) in
+        let e = is-some o (not-false (isSome o) (or-none-right (isSubmodelFieldFault s p) _ (rw k at (declared p i)))) in
+        rw (e .1) (element-named s (holder s p) (text (firstField s p)) (e .0) (e .1) .1)
+
     -- "parent against the class table or not an earlier element of the definition" does not apply
     no-parent-fault : (d e : ℕ) → In e (elements s d) → isParentFault s e ≡ false
     unfolding isUndeclared isModel isElement

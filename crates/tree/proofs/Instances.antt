@@ -17,17 +17,12 @@ use Rattle.flat_table.specs.Table.{mostRows}
 use Rattle.recipe.specs.Records.{Recipe}
 use Rattle.recipe.specs.Definitions.{main, submodels, modelOf}
 use Rattle.recipe.proofs.Rows.{not-at-start}
-use Rattle.tree.specs.Tree.{mostDepth, instances, pathsBelow, definitionBelow, treeElements}
+use Rattle.tree.specs.Tree.{mostDepth, instances, pathsBelow, definitionBelow, Submodels, treeElements}
 use Rattle.tree.specs.Faults.{mostInstances, isTooLarge, fault₇}
 
 module _ (s : Recipe) where
-  -- a path of submodels, each of the definition reached
-  abbrev pub Submodels : ℕ → List ℕ → Type 0
-  Submodels d [] = Unit {0}
-  Submodels d (m ∷ path) = In m (submodels s d) × Submodels (modelOf s m) path
-
   -- an instance's path is one
-  pub below-submodels : (n d : ℕ) (path : List ℕ) → In path (pathsBelow n s d) → Submodels d path
+  pub below-submodels : (n d : ℕ) (path : List ℕ) → In path (pathsBelow n s d) → Submodels s d path
   unfolding pathsBelow
   below-submodels zero d path (inl p) = rw p tt
   below-submodels zero d path (inr i) = absurd i
@@ -40,7 +35,7 @@ module _ (s : Recipe) where
       rw (r .2) (m .1, below-submodels n (modelOf s (m .0)) (r .0) (r .1))
 
   -- and a path of at most n submodels is an instance's
-  pub submodels-below : (n d : ℕ) (path : List ℕ) → Submodels d path → length path ≤ n → In path (pathsBelow n s d)
+  pub submodels-below : (n d : ℕ) (path : List ℕ) → Submodels s d path → length path ≤ n → In path (pathsBelow n s d)
   unfolding pathsBelow
   submodels-below zero d [] h l = inl refl
   submodels-below zero d (m ∷ path) h l = absurd (omega arith)
@@ -51,7 +46,7 @@ module _ (s : Recipe) where
       (map-in sub (submodels s d) m (h .0))
       (map-in (λ rest. m ∷ rest) (pathsBelow n s (modelOf s m)) path (submodels-below n (modelOf s m) path (h .1) (omega arith))))
 
-  pub submodels-append : (d : ℕ) (p q : List ℕ) → Submodels d p → Submodels (definitionBelow s d p) q → Submodels d (p ++ q)
+  pub submodels-append : (d : ℕ) (p q : List ℕ) → Submodels s d p → Submodels s (definitionBelow s d p) q → Submodels s d (p ++ q)
   unfolding definitionBelow
   submodels-append d [] q h k = k
   submodels-append d (m ∷ p) q h k = (h .0, submodels-append (modelOf s m) p q (h .1) k)
@@ -61,13 +56,13 @@ module _ (s : Recipe) where
   below-append d [] q = refl
   below-append d (m ∷ p) q = below-append (modelOf s m) p q
 
-  submodels-take : (k d : ℕ) (p : List ℕ) → Submodels d p → Submodels d (take k p)
+  submodels-take : (k d : ℕ) (p : List ℕ) → Submodels s d p → Submodels s d (take k p)
   submodels-take zero d p h = tt
   submodels-take (suc k) d [] h = tt
   submodels-take (suc k) d (m ∷ p) h = (h .0, submodels-take k (modelOf s m) p (h .1))
 
   -- where no path is longer than n, looking deeper finds no more
-  pub paths-suffice : (n m d : ℕ) → ((path : List ℕ) → Submodels d path → length path ≤ n) → n ≤ m → pathsBelow m s d ≡ pathsBelow n s d
+  pub paths-suffice : (n m d : ℕ) → ((path : List ℕ) → Submodels s d path → length path ≤ n) → n ≤ m → pathsBelow m s d ≡ pathsBelow n s d
   unfolding pathsBelow
   paths-suffice zero zero d h l = refl
   paths-suffice zero (suc m) d h l =
@@ -81,7 +76,7 @@ module _ (s : Recipe) where
       ap (map (λ path. k ∷ path))
       (paths-suffice n m (modelOf s k) (λ path p. let g : suc (length path) ≤ suc n = h (k ∷ path) (i, p) in omega arith) (omega arith))))
 
-  pub instance-path : (p : List ℕ) → In p (instances s) → Submodels main p
+  pub instance-path : (p : List ℕ) → In p (instances s) → Submodels s main p
   unfolding instances
   instance-path p i = below-submodels _ main p i
 
@@ -108,7 +103,7 @@ module _ (s : Recipe) where
         (or-none-right (ltb mostInstances (length (instances s)) || any (λ p. ltb mostDepth (length p)) (instances s)) _ not-too-large)
 
     -- no path of submodels from main is longer than four, so each is an instance's: looking no deeper leaves none out
-    pub at-most-four : (p : List ℕ) → Submodels main p → length p ≤ 4
+    pub at-most-four : (p : List ℕ) → Submodels s main p → length p ≤ 4
     unfolding instances mostDepth
     at-most-four p h =
         omega (arith, length-take 5 p, depth (take 5 p) (submodels-below 5 main (take 5 p) (submodels-take 5 main p h) (omega (arith, length-take 5 p))))
@@ -118,6 +113,6 @@ module _ (s : Recipe) where
     unfolding instances mostDepth
     instances-suffice k = paths-suffice 5 (5 + k) main (λ p h. omega (arith, at-most-four p h)) (omega arith)
 
-    pub is-instance : (p : List ℕ) → Submodels main p → In p (instances s)
+    pub is-instance : (p : List ℕ) → Submodels s main p → In p (instances s)
     unfolding instances mostDepth
     is-instance p h = submodels-below 5 main p h (omega (arith, at-most-four p h))

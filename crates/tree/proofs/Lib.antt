@@ -4,3 +4,10 @@ pub mod Instances
 pub mod Targets
 pub mod Order
 pub mod Rows
+pub mod Numbering
+pub mod Walks
+pub mod Trees
+pub mod Resolving
+pub mod Untargeted
+pub mod ByRecord
+pub mod Misclassed

@@ -19,8 +19,7 @@ use Rattle.recipe.specs.Reading.{fault₆}
 use Rattle.recipe.proofs.Definitions.{in-elements, in-ports, element-named, submodel-named, port-named, holder-in}
 use Rattle.recipe.proofs.Reaching.{reach-append, reach-in}
 use Rattle.recipe.proofs.Rows.{no-cycle}
-use Rattle.tree.specs.Tree.{Node, node, through, elementTarget, targetNamed, submodelNames, targetBelow, targetBy, targetWithin, target, definitionBelow}
-use Rattle.tree.proofs.Instances.{Submodels}
+use Rattle.tree.specs.Tree.{Node, node, through, elementTarget, targetNamed, submodelNames, targetBelow, targetBy, targetWithin, target, definitionBelow, Submodels}
 
 module _ (s : Recipe) where
   -- ---- a path of submodels, with an element of the definition at its end

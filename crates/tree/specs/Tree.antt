@@ -6,7 +6,7 @@ use mathlib.Core.Option.{Option, none, some, Option·map}
 use mathlib.Core.List.{List, [], _∷_, map}
 use lib.ListN.{length}
 use lib.Dec.{eqb}
-use Rattle.names.specs.Lists.{keep, joined, same}
+use Rattle.names.specs.Lists.{In, keep, joined, same}
 use Rattle.names.specs.Names.{text, isBlank}
 use Rattle.recipe.specs.Records.{Recipe, isElement, submodelField, way, targetField, parentField, referenceField}
 use Rattle.recipe.specs.Definitions.{main, definitions, recordsOf, holder, submodels, elementNamed, submodelNamed, portNamed, modelOf, elementIn}
@@ -28,6 +28,11 @@ instances s = pathsBelow (suc mostDepth) s main
 unfoldable pub definitionBelow : Recipe → ℕ → List ℕ → ℕ
 definitionBelow s d [] = d
 definitionBelow s d (m ∷ path) = definitionBelow s (modelOf s m) path
+
+-- a path of submodels, each of the definition reached
+abbrev pub Submodels : Recipe → ℕ → List ℕ → Type 0
+Submodels s d [] = Unit {0}
+Submodels s d (m ∷ path) = In m (submodels s d) × Submodels s (modelOf s m) path
 
 -- the definition of an instance
 unfoldable pub definitionAt : Recipe → List ℕ → ℕ

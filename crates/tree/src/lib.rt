@@ -1,2 +1,290 @@
-// The tree of a recipe's instances and the targets through its ports, and the refusals 7, 8 and 10.
-// The functions come with the code of this floor; `specs/` says what they will compute.
+// The tree of a recipe: its instances, the targets of ports and marks, and the refusals 7, 8 and 10.
+// For the floors above: wide, plant, first_untargeted, first_misclassed. They take the name width w, and tables by place that the floor below fills.
+ghost use mathlib.Core.Path.{_≡_};
+ghost use mathlib.Core.Bool.{true, false, not, _||_};
+ghost use Prim.Native.Nat.{_≤_, _<_};
+ghost use lib.ListN.{length};
+ghost use Rattle.names.specs.Lists.{In};
+ghost use Rattle.names.specs.Names.{isBlank};
+ghost use Rattle.names.specs.Scans.{foundOf};
+ghost use Rattle.recipe.specs.Records.{Recipe, places, isMark, isPort, submodelField};
+ghost use Rattle.recipe.specs.Definitions.{definitions, main};
+ghost use Rattle.tree.specs.Faults.{isTooLarge, fault₈, fault₁₀};
+ghost use Rattle.tree.specs.Numbers.{Instances};
+ghost use Rattle.tree.specs.Walk.{over, Ground, Grown, Long, Offsets};
+ghost use Rattle.tree.specs.Resolve.{Names, Resolved, Numbered, Aims, Linked};
+use names::Found;
+
+// A number of the tables, as a place or a count.
+pub fn wide(x: u16) -> usize
+    ensures { λ r. ⌜ (r ≡ x) × (r < 65536) ⌝ }
+{
+    x as usize
+}
+
+// What a walk answers: whether the tree fits, and how many instances and elements there are with those before.
+pub struct Walked {
+    pub ok: bool,
+    pub insts: usize,
+    pub elems: usize,
+}
+
+// The tree below an instance of d, its rows from i on, its elements numbered from e on; `left` deep at most.
+pub fn walk(
+    s: &[u8],
+    w: usize,
+    hold: &[u16; 16384],
+    model: &[u16; 16384],
+    count: &[u16; 16384],
+    d: usize,
+    left: usize,
+    i: usize,
+    e: usize,
+    inst: &mut [u16; 192],
+    off: &mut [u16; 16384],
+) -> Walked
+    requires { ⌜ Ground (record { width = w; bytes = now s }) (now hold) (now model) (now count) × (In d (definitions (record { width = w; bytes = now s })) × ((left ≤ 4) × ((e ≤ 1024) × Long (now inst) (now off)))) ⌝ }
+    ensures { λ r. ⌜ (r .ok ≡ not (over left (record { width = w; bytes = now (s .entry) }) d i e)) × ((r .ok ≡ true → Grown (record { width = w; bytes = now (s .entry) }) left d i e (now (inst .entry)) (now (off .entry)) (now (inst .exit)) (now (off .exit)) (r .insts) (r .elems)) × Long (now (inst .exit)) (now (off .exit))) ⌝ }
+{
+    let c = wide(count[d]);
+    if i >= 64 {
+        return Walked {
+            ok: false,
+            insts: 0,
+            elems: 0,
+        };
+    }
+    if c > 1024 - e {
+        return Walked {
+            ok: false,
+            insts: 0,
+            elems: 0,
+        };
+    }
+    inst[3 * i] = d as u16;
+    inst[3 * i + 1] = (4 - left) as u16;
+    inst[3 * i + 2] = e as u16;
+    let mut j = i + 1;
+    let mut x = e + c;
+    let mut p = d + recipe::record_length(1, w);
+    while p < s.len() {
+        if wide(hold[p]) != d {
+            return Walked {
+                ok: true,
+                insts: j,
+                elems: x,
+            };
+        }
+        let k = s[p];
+        if k == 4 {
+            if left == 0 {
+                return Walked {
+                    ok: false,
+                    insts: 0,
+                    elems: 0,
+                };
+            }
+            off[p] = (x - e) as u16;
+            let m = wide(model[p]);
+            let t = walk(s, w, hold, model, count, m, left - 1, j, x, inst, off);
+            let ok = t.ok;
+            if !ok {
+                return Walked {
+                    ok: false,
+                    insts: 0,
+                    elems: 0,
+                };
+            }
+            j = t.insts;
+            x = t.elems;
+            p += recipe::record_length(4, w);
+        } else {
+            p += recipe::record_length(k, w);
+        }
+    }
+    Walked {
+        ok: true,
+        insts: j,
+        elems: x,
+    }
+}
+
+// What planting answers: whether the tree is too large, and how many instances it has.
+pub struct Planted {
+    pub large: bool,
+    pub insts: usize,
+}
+
+// Row 7, and the tables of instances and of submodels' offsets.
+pub fn plant(
+    s: &[u8],
+    w: usize,
+    hold: &[u16; 16384],
+    model: &[u16; 16384],
+    count: &[u16; 16384],
+    inst: &mut [u16; 192],
+    off: &mut [u16; 16384],
+) -> Planted
+    requires { ⌜ Ground (record { width = w; bytes = now s }) (now hold) (now model) (now count) × (In main (definitions (record { width = w; bytes = now s })) × Long (now inst) (now off)) ⌝ }
+    ensures { λ r. ⌜ (r .large ≡ isTooLarge (record { width = w; bytes = now (s .entry) })) × ((r .large ≡ false → Instances (record { width = w; bytes = now (s .entry) }) (now (inst .exit)) (r .insts) × Offsets (record { width = w; bytes = now (s .entry) }) (now (off .exit))) × Long (now (inst .exit)) (now (off .exit))) ⌝ }
+{
+    let t = walk(s, w, hold, model, count, 0, 4, 0, 0, inst, off);
+    let ok = t.ok;
+    let n = t.insts;
+    Planted {
+        large: !ok,
+        insts: n,
+    }
+}
+
+// What resolving answers: whether there is a target, its place, and its number from the first element of the instance.
+pub struct Target {
+    pub ok: bool,
+    pub place: usize,
+    pub num: usize,
+}
+
+// The target of the mark or port at r, which names a submodel, by at most n records.
+pub fn resolve_reference(
+    s: &[u8],
+    w: usize,
+    sub: &[u16; 16384],
+    nxt: &[u16; 16384],
+    ord: &[u16; 16384],
+    off: &[u16; 16384],
+    r: usize,
+    n: usize,
+) -> Target
+    requires { ⌜ Names (record { width = w; bytes = now s }) (now sub) (now nxt) (now ord) × (In r (places (record { width = w; bytes = now s })) × ((isMark (record { width = w; bytes = now s }) r || isPort (record { width = w; bytes = now s }) r ≡ true) × ((n ≤ 16384) × ((isBlank (submodelField (record { width = w; bytes = now s }) r) ≡ false) × (n ≡ 0 → ⊥))))) ⌝ }
+    ensures { λ a. ⌜ Resolved (record { width = w; bytes = now (s .entry) }) (now (off .entry)) n r (a .ok) (a .place) (a .num) ⌝ }
+{
+    let x = wide(nxt[r]);
+    if x == 0 {
+        return Target {
+            ok: false,
+            place: 0,
+            num: 0,
+        };
+    }
+    let m = wide(sub[r]);
+    let f = wide(off[m]);
+    if s[x] == 2 {
+        let g = wide(ord[x]);
+        return Target {
+            ok: true,
+            place: x,
+            num: f + g,
+        };
+    }
+    let t = resolve_port(s, w, sub, nxt, ord, off, x, n - 1);
+    let ok = t.ok;
+    let place = t.place;
+    let num = t.num;
+    Target {
+        ok: ok,
+        place: place,
+        num: f + num,
+    }
+}
+
+// The target of the port or mark at q, by at most n records.
+pub fn resolve_port(
+    s: &[u8],
+    w: usize,
+    sub: &[u16; 16384],
+    nxt: &[u16; 16384],
+    ord: &[u16; 16384],
+    off: &[u16; 16384],
+    q: usize,
+    n: usize,
+) -> Target
+    requires { ⌜ Names (record { width = w; bytes = now s }) (now sub) (now nxt) (now ord) × (In q (places (record { width = w; bytes = now s })) × ((isMark (record { width = w; bytes = now s }) q || isPort (record { width = w; bytes = now s }) q ≡ true) × (n ≤ 16384))) ⌝ }
+    ensures { λ a. ⌜ Resolved (record { width = w; bytes = now (s .entry) }) (now (off .entry)) n q (a .ok) (a .place) (a .num) ⌝ }
+{
+    if n == 0 {
+        return Target {
+            ok: false,
+            place: 0,
+            num: 0,
+        };
+    }
+    if wide(sub[q]) != 0 {
+        return resolve_reference(s, w, sub, nxt, ord, off, q, n);
+    }
+    let x = wide(nxt[q]);
+    if x == 0 {
+        return Target {
+            ok: false,
+            place: 0,
+            num: 0,
+        };
+    }
+    let g = wide(ord[x]);
+    Target {
+        ok: true,
+        place: x,
+        num: g,
+    }
+}
+
+// Row 8: the first mark or port without a target; the numbers and the places of the others' targets.
+pub fn first_untargeted(
+    s: &[u8],
+    w: usize,
+    sub: &[u16; 16384],
+    nxt: &[u16; 16384],
+    ord: &[u16; 16384],
+    off: &[u16; 16384],
+    n: usize,
+    rel: &mut [u16; 16384],
+    aims: &mut [u16; 16384],
+) -> Found
+    requires { ⌜ Names (record { width = w; bytes = now s }) (now sub) (now nxt) (now ord) × ((n ≡ length (definitions (record { width = w; bytes = now s }))) × ((n ≤ 16384) × ((length (now rel) ≡ 16384) × (length (now aims) ≡ 16384)))) ⌝ }
+    ensures { λ r. ⌜ (r ≡ foundOf (fault₈ (record { width = w; bytes = now (s .entry) }))) × (r ≡ Found.Nothing → Numbered (record { width = w; bytes = now (s .entry) }) (now (off .entry)) (now (rel .exit)) (length (now (s .entry))) × Aims (record { width = w; bytes = now (s .entry) }) (now (aims .exit)) (length (now (s .entry)))) ⌝ }
+{
+    let mut p = 0;
+    while p < s.len() {
+        let k = s[p];
+        if (k == 3) | (k >= 5) {
+            let t = resolve_port(s, w, sub, nxt, ord, off, p, n);
+            let ok = t.ok;
+            let num = t.num;
+            let place = t.place;
+            if !ok {
+                return Found::At(p);
+            }
+            aims[p] = place as u16;
+            if num < 65536 {
+                rel[p] = num as u16;
+                p += recipe::record_length(k, w);
+            } else {
+                p += recipe::record_length(k, w);
+            }
+        } else {
+            p += recipe::record_length(k, w);
+        }
+    }
+    Found::Nothing
+}
+
+// Row 10: the first mark whose owner's and target's class differ.
+pub fn first_misclassed(s: &[u8], w: usize, own: &[u16; 16384], aims: &[u16; 16384]) -> Found
+    requires { ⌜ Linked (record { width = w; bytes = now s }) (now own) (now aims) ⌝ }
+    ensures { λ r. ⌜ r ≡ foundOf (fault₁₀ (record { width = w; bytes = now (s .entry) })) ⌝ }
+{
+    let mut p = 0;
+    while p < s.len() {
+        let k = s[p];
+        if k >= 6 {
+            let a = s[wide(own[p]) + 1 + w];
+            let b = s[wide(aims[p]) + 1 + w];
+            if a != b {
+                return Found::At(p);
+            }
+            p += recipe::record_length(k, w);
+        } else {
+            p += recipe::record_length(k, w);
+        }
+    }
+    Found::Nothing
+}
