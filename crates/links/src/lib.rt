@@ -36,7 +36,7 @@ fn list_records(s: &[u8], w: usize, at: &mut [u16]) -> usize
 // Writes by place the definition that holds each record.
 fn hold_records(s: &[u8], w: usize, at: &[u16], n: usize, hold: &mut [u16; 16384])
     requires { ⌜ Clear (record { width = w; bytes = now s }) × (Listed (record { width = w; bytes = now s }) (now at) n × (length (now hold) ≡ 16384)) ⌝ }
-    ensures { λ r. ⌜ ByPlace (record { width = w; bytes = now (s .entry) }) (holder (record { width = w; bytes = now (s .entry) })) (now (hold .exit)) ⌝ }
+    ensures { λ r. ⌜ ByPlace (record { width = w; bytes = now (s .entry) }) (holder (record { width = w; bytes = now (s .entry) })) (now (hold .exit)) × (length (now (hold .exit)) ≡ 16384) ⌝ }
 {
     let mut d = 0;
     let mut i = 0;
@@ -139,7 +139,7 @@ pub fn index_names(
     index: &mut [u16],
 ) -> usize
     requires { ⌜ Clear (record { width = w; bytes = now s }) × ((1536 ≤ length (now at)) × ((length (now hold) ≡ 16384) × ((16384 ≤ length (now fields)) × ((1536 ≤ length (now keys)) × (1536 ≤ length (now index)))))) ⌝ }
-    ensures { λ r. ⌜ Indexed (record { width = w; bytes = now (s .entry) }) (now (at .exit)) (now (fields .exit)) (now (keys .exit)) (now (index .exit)) r × ByPlace (record { width = w; bytes = now (s .entry) }) (holder (record { width = w; bytes = now (s .entry) })) (now (hold .exit)) ⌝ }
+    ensures { λ r. ⌜ Indexed (record { width = w; bytes = now (s .entry) }) (now (at .exit)) (now (fields .exit)) (now (keys .exit)) (now (index .exit)) r × (ByPlace (record { width = w; bytes = now (s .entry) }) (holder (record { width = w; bytes = now (s .entry) })) (now (hold .exit)) × (length (now (hold .exit)) ≡ 16384)) ⌝ }
 {
     let n = list_records(s, w, at);
     hold_records(s, w, at, n, hold);
@@ -646,7 +646,7 @@ pub fn link_models(
     out: &mut [u16; 16384],
 )
     requires { ⌜ Named (record { width = w; bytes = now s }) (now at) (now fields) (now keys) (now index) n × (ByPlace (record { width = w; bytes = now s }) (holder (record { width = w; bytes = now s })) (now hold) × (length (now out) ≡ 16384)) ⌝ }
-    ensures { λ r. ⌜ ByPlace (record { width = w; bytes = now (s .entry) }) (modelLink (record { width = w; bytes = now (s .entry) })) (now (out .exit)) ⌝ }
+    ensures { λ r. ⌜ ByPlace (record { width = w; bytes = now (s .entry) }) (modelLink (record { width = w; bytes = now (s .entry) })) (now (out .exit)) × (length (now (out .exit)) ≡ 16384) ⌝ }
 {
     let mut i = 0;
     while i < n {

@@ -1,5 +1,6 @@
 -- `links::hold_records` meets its contract: the invariant: the first i records have their definition, and d is that of the last.
 -- Assumes nothing.
+use mathlib.Core.Path.{_∙_}
 use Prim.Native.Nat.{_-_, _≤_}
 use native.Mathlib.Omega.{arith}
 use Rattle.links.proofs.Places.{filling-end}
@@ -65,7 +66,7 @@ loop-again-2 : tie.Need-loop-again-2 Inv-loop μ-loop
 loop-again-2 c = let s = c .before .before .before .before .before in let i = c .before .before .before .before .loop .inv in let h = c .before .before .before .loop-test .taken in let pre = s .pre in (omega arith, holding-other (i .1) _ (omega (arith, pre .1 .0 .count)) (pre .1 .0 .listed _ h) (omega (arith, listed-low (pre .0) (pre .1 .0) h, i .1 .fill .long, pre .1 .1)) (c .if1 .left))
 
 returns : tie.Need-returns Inv-loop μ-loop
-returns c = let pre = c .before .before .pre in filling-end _ (c .before .loop .inv .1 .fill) (omega (arith, pre .1 .0 .count))
+returns c = let pre = c .before .before .pre in (filling-end _ (c .before .loop .inv .1 .fill) (omega (arith, pre .1 .0 .count)), c .before .loop .inv .1 .fill .long ∙ pre .1 .1)
 
 pub hold-records-spec : {M : Type 1} → statement M
 hold-records-spec =

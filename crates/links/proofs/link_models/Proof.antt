@@ -1,5 +1,6 @@
 -- `links::link_models` meets its contract: the invariant: the first i records have their link.
 -- Assumes nothing.
+use mathlib.Core.Path.{_∙_}
 use Prim.Native.Nat.{_-_, _≤_}
 use native.Mathlib.Omega.{arith}
 use Rattle.links.specs.Links.{modelLink}
@@ -53,7 +54,7 @@ loop-again : tie.Need-loop-again Inv-loop μ-loop
 loop-again c = let pre = c .before .before .before .before .before .before .before .before .before .before .pre in let h = c .before .before .before .loop-test .taken in let ix = pre .0 .indexed in (omega arith, filling-one _ _ _ (c .before .before .before .before .loop .inv .1) (omega (arith, ix .places-are .count)) (ix .places-are .listed _ h) (omega (arith, listed-low (ix .clear) (ix .places-are) h, c .before .before .before .before .loop .inv .1 .long, pre .1 .1)) (c .model-at .ensures))
 
 returns : tie.Need-returns Inv-loop μ-loop
-returns c = let pre = c .before .before .before .before .before .before .before .pre in filling-end _ (c .before .loop .inv .1) (omega (arith, pre .0 .indexed .places-are .count, c .loop-test .left))
+returns c = let pre = c .before .before .before .before .before .before .before .pre in (filling-end _ (c .before .loop .inv .1) (omega (arith, pre .0 .indexed .places-are .count, c .loop-test .left)), c .before .loop .inv .1 .long ∙ pre .1 .1)
 
 pub link-models-spec : {M : Type 1} → statement M
 link-models-spec =
