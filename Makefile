@@ -1,5 +1,5 @@
 # Bandrolt: run it, test it, measure it. What each target needs is said if it is missing.
-LIBRARIES = flat_table
+LIBRARIES = flat_table reading
 BUILD = harness/target
 CC_FLAGS = -std=c11 -Wall -Wextra -Werror -O2 -Iinclude
 CARGO = cargo run --quiet --offline --release --manifest-path harness/Cargo.toml --bin
@@ -16,6 +16,7 @@ test: tools-there
 # Our calls beside the other program's, as a ratio, on typical and on hostile input.
 bench: lib
 	@$(CARGO) bench
+	@$(CARGO) bench_recipes
 
 # The static libraries, target/staticlib/lib*.a.
 lib: tools-there

@@ -1,14 +1,18 @@
-//! Links libflat_table.a from the directory BANDROLT_LIB, by default ../target/staticlib.
+//! Links the library's archives from the directory BANDROLT_LIB, by default ../target/staticlib.
 //! A relative directory counts from harness/.
 
 use std::{env, path::Path};
+
+const ARCHIVES: [&str; 2] = ["flat_table", "reading"];
 
 fn main() {
     println!("cargo:rerun-if-env-changed=BANDROLT_LIB");
     let given = env::var("BANDROLT_LIB").unwrap_or_else(|_| "../target/staticlib".into());
     let directory = Path::new(env!("CARGO_MANIFEST_DIR")).join(given);
-    let archive = directory.join("libflat_table.a");
-    println!("cargo:rerun-if-changed={}", archive.display());
     println!("cargo:rustc-link-search=native={}", directory.display());
-    println!("cargo:rustc-link-lib=static=flat_table");
+    for name in ARCHIVES {
+        let archive = directory.join(format!("lib{name}.a"));
+        println!("cargo:rerun-if-changed={}", archive.display());
+        println!("cargo:rustc-link-lib=static={name}");
+    }
 }

@@ -1,5 +1,5 @@
-//! The library's table check, made safe to call from Rust.
-//! This file uses nothing else of the harness: copy it into a program that links libflat_table.a.
+//! The library's calls, made safe to call from Rust.
+//! This file uses nothing else of the harness: copy it into a program that links libflat_table.a and libreading.a.
 
 /// What the check answers, laid out as `bandrolt_table_answer` in bandrolt.h.
 ///
@@ -13,8 +13,18 @@ pub struct TableAnswer {
     pub count: u64,
 }
 
+/// What reading a recipe answers, laid out as `bandrolt_read_answer` in bandrolt.h:
+/// number 0 and place 0, or a refusal among 1 to 6 with its place.
+#[repr(C)]
+#[derive(Clone, Copy, Debug, PartialEq, Eq)]
+pub struct ReadAnswer {
+    pub number: u64,
+    pub place: u64,
+}
+
 mod c {
     extern "C" {
+        pub fn bandrolt_read_recipe(recipe: *const u8, length: usize) -> super::ReadAnswer;
         pub fn bandrolt_check_table(table: *const u8, length: usize) -> super::TableAnswer;
     }
 }
@@ -23,4 +33,10 @@ mod c {
 pub fn check_table(table: &[u8]) -> TableAnswer {
     // SAFETY: pointer and length are those of a slice, which the call reads and doesn't keep.
     unsafe { c::bandrolt_check_table(table.as_ptr(), table.len()) }
+}
+
+/// Reads a recipe, of any bytes and any length: the refusals 1 to 6.
+pub fn read_recipe(recipe: &[u8]) -> ReadAnswer {
+    // SAFETY: pointer and length are those of a slice, which the call reads and doesn't keep.
+    unsafe { c::bandrolt_read_recipe(recipe.as_ptr(), recipe.len()) }
 }

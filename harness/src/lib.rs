@@ -8,3 +8,4 @@ pub mod random;
 pub mod recipes;
 pub mod report;
 pub mod tables;
+pub mod timing;

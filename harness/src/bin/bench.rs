@@ -5,13 +5,10 @@ use harness::bandrolt::{check_table, TableAnswer};
 use harness::other::table;
 use harness::random::Random;
 use harness::tables::{closed, encode, Links, Names, MAX_RECORDS};
-use std::hint::black_box;
-use std::time::Instant;
+use harness::timing::times;
 
 const ROWS: [usize; 4] = [1, 10, 100, MAX_RECORDS];
 const TABLES: u64 = 8;
-const ROUNDS: usize = 21;
-const BATCH_SECONDS: f64 = 0.002;
 
 type Check = fn(&[u8]) -> TableAnswer;
 
@@ -56,7 +53,7 @@ fn main() {
         let mut ours_before = 0.0;
         for rows in ROWS {
             let tables: Vec<Vec<u8>> = (0..TABLES).map(|seed| make(family, rows, seed)).collect();
-            let [ours, other] = times(&tables);
+            let [ours, other] = times(PROGRAMS, &tables);
             println!(
                 "{:<26}{rows:>6}{ours:>12.3}{other:>12.3}{:>8.2}",
                 family.what,
@@ -87,30 +84,4 @@ fn make(family: &Family, rows: usize, seed: u64) -> Vec<u8> {
     assert_eq!(ours, other, "the programs answer the same");
     assert_eq!(ours.number, number, "the table is what its family says");
     table
-}
-
-/// Each program's microseconds for one table, in its best round.
-fn times(tables: &[Vec<u8>]) -> [f64; 2] {
-    let mut repeats = 1;
-    while batch(PROGRAMS[1], tables, repeats) < BATCH_SECONDS {
-        repeats *= 2;
-    }
-    // The programs take turns, so that what else the machine does falls on both.
-    let mut best = [f64::INFINITY; 2];
-    for _ in 0..ROUNDS {
-        for (best, check) in best.iter_mut().zip(PROGRAMS) {
-            *best = best.min(batch(check, tables, repeats));
-        }
-    }
-    best.map(|seconds| seconds * 1e6 / (repeats * tables.len()) as f64)
-}
-
-fn batch(check: Check, tables: &[Vec<u8>], repeats: usize) -> f64 {
-    let start = Instant::now();
-    for _ in 0..repeats {
-        for table in tables {
-            black_box(check(black_box(table)));
-        }
-    }
-    start.elapsed().as_secs_f64()
 }

@@ -2,9 +2,10 @@
 //! `recipes [SEED]`, where the second random set follows from SEED or else from the clock;
 //! `recipes encode FILE` writes the bytes of a recipe in text, `recipes show FILE` the text of bytes.
 
+use harness::bandrolt::{read_recipe, ReadAnswer};
 use harness::other::recipe::rules::{Rules, MUTANTS};
 use harness::other::recipe::slow::{self, conflicts, Conflict};
-use harness::other::recipe::{self, Answer, ReadAnswer};
+use harness::other::recipe::{self, Answer};
 use harness::other::{table, RECORD};
 use harness::random::Random;
 use harness::recipes::enumerate::each_recipe;
@@ -32,6 +33,7 @@ const READERS: &[(&str, Read)] = &[
     ("slow", |recipe| {
         slow::read(recipe, &Rules::default()).into()
     }),
+    ("library", read_recipe),
 ];
 
 /// The programs that flatten them; all must answer and write what the first does.

@@ -11,18 +11,11 @@ mod targets;
 mod tree;
 
 use super::{Refusal, RECORD};
+use crate::bandrolt::ReadAnswer;
 use flat::Flat;
 use marks::Fates;
 use targets::Targets;
 use tree::Tree;
-
-/// What reading answers: number 0 and place 0, or a refusal among 1 to 6.
-#[repr(C)]
-#[derive(Clone, Copy, Debug, PartialEq, Eq)]
-pub struct ReadAnswer {
-    pub number: u64,
-    pub place: u64,
-}
 
 impl From<Result<(), Refusal>> for ReadAnswer {
     fn from(verdict: Result<(), Refusal>) -> Self {
