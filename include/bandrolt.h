@@ -1,5 +1,5 @@
-/* Bandrolt's table check, for C99 and C++; link with libflat_table.a.
-   It tells whether a flat table is closed, as document 01 says it. */
+/* Bandrolt's calls, for C99 and C++; link with libflat_table.a and libreading.a.
+   They tell whether a flat table is closed, and whether a recipe reads, as document 01 says it. */
 
 #ifndef BANDROLT_H
 #define BANDROLT_H
@@ -50,6 +50,28 @@ typedef struct bandrolt_table_answer {
 #define BANDROLT_CHECK_TABLE_STACK 16384
 
 bandrolt_table_answer bandrolt_check_table(const uint8_t *table, size_t length);
+
+typedef struct bandrolt_read_answer {
+    uint64_t number; /* 0 for a recipe that reads, or else 1 to 6 */
+    uint64_t place;  /* offset of the record at fault, or 0 */
+} bandrolt_read_answer;
+
+/* Reads the `length` bytes at `recipe`, a recipe with names of 12 bytes, and judges what can be said without its
+   tree: the lowest number that applies, with its lowest place, or 0 and 0.
+
+     1, at 0: the recipe is empty, or over 16,384 bytes;
+     2, at a record: its kind is unknown, its body is cut short, or it is the first and no model;
+     3, at a record: a field is no name, or blank where no blank is allowed; a way or class byte has no meaning;
+        a submodel's own name ends with an underscore;
+     4, at a record: it repeats a name, or is a definition's second replaced-by with one owner;
+     5, at a record: what it names is not declared, or its parent is against the class table;
+     6, at a model: its definition reaches itself.
+
+   The call reads those bytes alone, writes none, ends on all input, keeps no state and allocates nothing.
+   `recipe` may be null only with length 0. It needs less than BANDROLT_READ_RECIPE_STACK bytes of stack. */
+#define BANDROLT_READ_RECIPE_STACK 262144
+
+bandrolt_read_answer bandrolt_read_recipe(const uint8_t *recipe, size_t length);
 
 #ifdef __cplusplus
 }

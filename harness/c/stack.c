@@ -1,5 +1,5 @@
-/* Measures the stack that a call of the library takes, and holds it to what bandrolt.h says.
-   The call runs on a stack of its own that was filled with a pattern before. */
+/* Measures the stack that each call of the library takes, and holds it to what bandrolt.h says.
+   A call runs on a stack of its own that was filled with a pattern before. */
 
 #define _XOPEN_SOURCE 700
 #include <pthread.h>
@@ -21,8 +21,19 @@ static void fill_table(void) {
     }
 }
 
-static void *check(void *answer) {
-    *(bandrolt_table_answer *)answer = bandrolt_check_table(table, sizeof table);
+/* Models m and n, each with a submodel of the other: they reach themselves, which is looked for last. */
+static const uint8_t recipe[76] = "\1m\0\0\0\0\0\0\0\0\0\0\0" "\4x\0\0\0\0\0\0\0\0\0\0\0n\0\0\0\0\0\0\0\0\0\0\0"
+                                  "\1n\0\0\0\0\0\0\0\0\0\0\0" "\4x\0\0\0\0\0\0\0\0\0\0\0m\0\0\0\0\0\0\0\0\0\0";
+
+static void *check_table(void *holds) {
+    bandrolt_table_answer answer = bandrolt_check_table(table, sizeof table);
+    *(int *)holds = answer.number == 0 && answer.count == MOST;
+    return NULL;
+}
+
+static void *read_recipe(void *holds) {
+    bandrolt_read_answer answer = bandrolt_read_recipe(recipe, sizeof recipe);
+    *(int *)holds = answer.number == 6 && answer.place == 0;
     return NULL;
 }
 
@@ -46,16 +57,21 @@ static size_t touched(void *(*work)(void *), void *argument) {
     return STACK - untouched;
 }
 
+/* Whether a call answers as it must, within the stack that is promised for it. */
+static int measure(const char *name, void *(*call)(void *), size_t promised) {
+    int holds = 0;
+    size_t bytes = touched(call, &holds) - touched(nothing, NULL);
+
+    printf("%s took %zu bytes of stack, %zu are promised\n", name, bytes, promised);
+    return holds && bytes < promised;
+}
+
 int main(void) {
-    bandrolt_table_answer answer;
-    size_t bytes;
-    int holds;
+    int passed;
 
     fill_table();
-    bytes = touched(check, &answer) - touched(nothing, NULL);
-    holds = answer.number == 0 && answer.count == MOST && bytes < BANDROLT_CHECK_TABLE_STACK;
-    printf("bandrolt_check_table took %zu bytes of stack, %d are promised\n", bytes,
-           BANDROLT_CHECK_TABLE_STACK);
-    printf("%d passed, %d failed\n", holds, !holds);
-    return !holds;
+    passed = measure("bandrolt_check_table", check_table, BANDROLT_CHECK_TABLE_STACK);
+    passed += measure("bandrolt_read_recipe", read_recipe, BANDROLT_READ_RECIPE_STACK);
+    printf("%d passed, %d failed\n", passed, 2 - passed);
+    return passed != 2;
 }
