@@ -64,12 +64,14 @@ def goals(crate, holes, write):
     print("proved:", " ".join(re.findall(r"^fn \w+::(\w+): proved", output, re.M)))
 
 
-def places(crate, function):
-    """For each need of a function the chain of its places, each the list of its fields and of their own fields."""
+def places(crate, function, part=""):
+    """For each need of a function the chain of its places, each the list of its fields and of their own fields.
+
+    `part` is one function of a cycle, whose proofs stand in one folder."""
     folder = tempfile.mkdtemp()
     subprocess.run(["rt", "dev", crate, "--generated", folder], capture_output=True)
     own, before, fields, needs = {}, {}, {}, {}
-    for path in glob.glob(folder + "/*proofs/proofs/%s/Lts*.antt" % function):
+    for path in glob.glob(folder + "/*proofs/proofs/%s/Lts%s.antt" % (function, "-" + part if part else "*")):
         record, inner, need = None, False, None
         for line in open(path):
             if m := re.match(r" +pub record (\S+?)(·own)?(?: |$)", line):
@@ -99,7 +101,7 @@ def places(crate, function):
 
 def fill(crate, function, answers, uses="", prefix=""):
     """Fills answers into the skeleton of a function; `prefix` is the function's name before its needs, in a cycle."""
-    chains = places(crate, function)
+    chains = places(crate, function, prefix.removesuffix("-").replace("-", "_"))
     path = "crates/%s/proofs/%s/Proof.antt" % (crate, function)
     text = re.sub(r"-- src/\S+\n|(?m:^use .* as (?:reads|lts)\n)", "", open(path).read())
 

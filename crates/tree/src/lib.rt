@@ -30,7 +30,7 @@ pub struct Walked {
 }
 
 // The tree below an instance of d, its rows from i on, its elements numbered from e on; `left` deep at most.
-pub fn walk(
+fn walk(
     s: &[u8],
     w: usize,
     hold: &[u16; 16384],
@@ -145,7 +145,7 @@ pub struct Target {
 }
 
 // The target of the mark or port at r, which names a submodel, by at most n records.
-pub fn resolve_reference(
+fn resolve_reference(
     s: &[u8],
     w: usize,
     sub: &[u16; 16384],
@@ -188,7 +188,7 @@ pub fn resolve_reference(
 }
 
 // The target of the port or mark at q, by at most n records.
-pub fn resolve_port(
+fn resolve_port(
     s: &[u8],
     w: usize,
     sub: &[u16; 16384],
