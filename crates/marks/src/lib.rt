@@ -1,4 +1,4 @@
-// Conflicts, elements that are gone, and the chain, and the refusals 9, 11 and 12.
+// Conflicts, elements that are gone, and the chain, and the refusals 9 and 11; 12 is to come.
 // For the floor above: first_conflict, fill_steps, is_gone, chain_end, first_lost. They take the name width w, and the tables of the floors below.
 ghost use mathlib.Core.Path.{_≡_};
 ghost use mathlib.Core.Bool.{true, _||_};
