@@ -11,6 +11,7 @@ CRATES = {
     "recipe": ["Records", "Definitions", "Reaching", "Reading"],
     "tree": ["Tree", "Faults"],
     "marks": ["Marks", "Faults"],
+    "flat_names": ["Prefixes"],
     "composer": ["Flat", "Verdicts", "Printed", "Samples"],
 }
 # What is defined by a type of the code: no proof by computation meets it.

@@ -20,7 +20,8 @@ use Rattle.tree.specs.Tree.{Node, definitionAt, treeElements}
 use Rattle.tree.proofs.Nodes.{in-tree}
 use Rattle.tree.proofs.Instances.{instance-path}
 use Rattle.tree.proofs.Targets.{Walk, walk-of}
-use Rattle.composer.specs.Flat.{withUnderscores, prefix, flatName, flatField}
+use Rattle.flat_names.specs.Prefixes.{withUnderscores, prefix, flatName}
+use Rattle.composer.specs.Flat.{flatField}
 
 -- a name and underscores
 with-characters : (n : List ℕ) (k : ℕ) → areNameCharacters n ≡ true → areNameCharacters (withUnderscores n k) ≡ true

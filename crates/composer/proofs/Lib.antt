@@ -2,9 +2,6 @@
 pub mod Promises
 pub mod Open
 pub mod Starred
-pub mod Prefixes
-pub mod Apart
-pub mod OneName
 pub mod Lengths
 pub mod Characters
 pub mod Table

@@ -12,7 +12,8 @@ use Rattle.tree.specs.Tree.{pathsBelow, mostDepth, instances, definitionBelow, 
 use Rattle.tree.specs.Faults.{mostInstances, isTooLarge, fault₇, isTargetFault, fault₈, isClassFault, fault₁₀}
 use Rattle.marks.specs.Marks.{treeMarks, treePointers, from, aim, aimsAt, sameAim, owner, ownsBy, removes, replaces, isMarkedGone, isGone, survivors, stepDown, step, chainWithin, chainEnd, isAtOrBelow, marksClash, ownerClash, portsClash, portClash, conflict}
 use Rattle.marks.specs.Faults.{conflictsWithEarlier, fault₉, aimsAtGone, fault₁₁, isReference, isReferenceFault as isReferenceFault′, fault₁₂}
-use Rattle.composer.specs.Flat.{declaredNames, namesAround, withUnderscores, isTaken, fewestFrom, fewest, prefix, flatName, flatField, flatReference, flatRecord, flat}
+use Rattle.flat_names.specs.Prefixes.{declaredNames, namesAround, withUnderscores, isTaken, fewestFrom, fewest, prefix, flatName}
+use Rattle.composer.specs.Flat.{flatField, flatReference, flatRecord, flat}
 use Rattle.composer.specs.Verdicts.{nameWidth, recipeOf, fault₁₃, accepted, refused, judge, judged, verdict, written}
 use Rattle.composer.specs.Printed.{characters, decimalIn, decimal, shown, rowLine, tableLines, refusalLine, printedOf, printed, inputRoom, outputRoom, programOutput}
 use Rattle.composer.specs.Samples.{nameField, model, element, port, submodel, deletion, replacement, replacedBy, row, cell, sample, c1, aOfCell, cForV, sampleR, tableR, line5, line6, refuses, gives, starred, reactor, plant, shell, fiveSteps, nested, beside, more, outputBefore, sameAnswer, holdsOf, wrongTable, answersOf, tableHolds, printedHolds, starredHold, lengthsHold, moreHold}

@@ -31,7 +31,7 @@ use Rattle.marks.specs.Marks.{isGone, survivors, chainEnd}
 use Rattle.marks.specs.Faults.{fault₁₂}
 use Rattle.marks.proofs.Survivors.{survivor, parent-class, parent-survives, blank-reference, filled-reference, reference-end, end-survives}
 use Rattle.composer.specs.Flat.{flatField, flatReference, flatRecord, flat}
-use Rattle.composer.proofs.OneName.{flat-names-differ}
+use Rattle.flat_names.proofs.OneName.{flat-names-differ}
 use Rattle.composer.proofs.Lengths.{name-field, parent-field, reference-field, reference-end-in, record-bytes, flat-bytes}
 use Rattle.composer.proofs.Characters.{field-name, field-tells, field-blank, field-filled, field-reads}
 use Rattle.composer.specs.FlatRecords.{recordPlaces, nameAt, parentAt, referenceAt, RecordOf, NamesOne, ParentNamed, ReferenceNamed}

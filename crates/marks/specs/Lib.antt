@@ -4,3 +4,4 @@ pub mod Faults
 pub mod Cells
 pub mod Steps
 pub mod Gone
+pub mod Elements

@@ -4,7 +4,7 @@ use Prim.Native.Nat.{_*_, _+_, _<_, _≤_, suc, zero, ℕ}
 use lib.Dec.{eqb}
 use lib.ListN.{getD, length}
 use mathlib.Core.Bool.{false, true}
-use mathlib.Core.List.{List, [], _∷_}
+use mathlib.Core.List.{List, [], _++_, _∷_}
 use mathlib.Core.Option.{none, some}
 use mathlib.Core.Path.{_≡_}
 use Rattle.recipe.specs.Definitions.{elements, holder, main, modelOf, submodels}
@@ -71,3 +71,8 @@ pub record Instances (s : Recipe) (inst : List ℕ) (n : ℕ) : Type 0 where
   pub model : (i : ℕ) → i < n → getD inst (3 * i) 0 ≡ definitionAt s (getD (instances s) i [])
   pub depth : (i : ℕ) → i < n → getD inst (3 * i + 1) 0 ≡ length (getD (instances s) i [])
   pub start : (i : ℕ) → i < n → getD inst (3 * i + 2) 0 ≡ firstAt s (getD (instances s) i [])
+
+-- and of each instance but main's its submodel record and the number of the instance around it, which comes before it (columns 3 and 4 of five)
+abbrev pub Above : Recipe → List ℕ → ℕ → Type 0
+Above s inst n = (i : ℕ) → i < n → 0 < i
+    → (getD inst (5 * i + 4) 0 < i) × (getD (instances s) i [] ≡ getD (instances s) (getD inst (5 * i + 4) 0) [] ++ (getD inst (5 * i + 3) 0 ∷ []))

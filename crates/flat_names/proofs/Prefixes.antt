@@ -12,7 +12,7 @@ use lib.ListN.{length, length-append, length-replicate}
 use Rattle.names.specs.Lists.{In, any, begins}
 use Rattle.names.proofs.Tests.{by-cases}
 use Rattle.names.proofs.Lists.{begins-length}
-use Rattle.composer.specs.Flat.{withUnderscores, isTaken, fewestFrom, fewest}
+use Rattle.flat_names.specs.Prefixes.{withUnderscores, isTaken, fewestFrom, fewest}
 
 -- each name of the list is at most w long
 abbrev pub Short : ℕ → List (List ℕ) → Type 0

@@ -20,9 +20,9 @@ use Rattle.tree.specs.Tree.{Node, definitionAt, treeElements}
 use Rattle.tree.proofs.Nodes.{in-tree, node-eq}
 use Rattle.tree.proofs.Instances.{instance-path}
 use Rattle.tree.proofs.Targets.{Walk, walk-of}
-use Rattle.composer.specs.Flat.{declaredNames, namesAround, withUnderscores, isTaken, fewest, prefix, flatName}
-use Rattle.composer.proofs.Prefixes.{Short, short, Count, fewest-count}
-use Rattle.composer.proofs.Apart.{same-name, Apart, one-name}
+use Rattle.flat_names.specs.Prefixes.{declaredNames, namesAround, withUnderscores, isTaken, fewest, prefix, flatName}
+use Rattle.flat_names.proofs.Prefixes.{Short, short, Count, fewest-count}
+use Rattle.flat_names.proofs.Apart.{same-name, Apart, one-name}
 
 module _ (s : Recipe) where
   -- ---- the names around a submodel

@@ -10,7 +10,7 @@ use Rattle.names.specs.Lists.{In, begins, lastOr, joined}
 use Rattle.recipe.specs.Records.{Recipe, name}
 use Rattle.recipe.specs.Definitions.{elements, submodels, modelOf}
 use Rattle.tree.proofs.Targets.{Walk}
-use Rattle.composer.specs.Flat.{prefix}
+use Rattle.flat_names.specs.Prefixes.{prefix}
 
 -- equal heads: a list begins another where its tail begins the other's
 begins-tail : (x y : ℕ) (xs ys : List ℕ) → x ≡ y → begins (x ∷ xs) (y ∷ ys) ≡ false → begins xs ys ≡ false

@@ -1,0 +1,2 @@
+-- Flat names: prefixes of submodels, and of instances, and the names of elements behind them.
+pub mod Prefixes
