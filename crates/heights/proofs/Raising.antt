@@ -52,14 +52,14 @@ module _ (s : Recipe) where
 
   -- ---- heights fall along all that is reached, so none reaches itself
   module _ {height : List ℕ} (h : Heights s height) where
-    reach-falls : {d e : ℕ} → Reach s d e → getD height e 0 < getD height d 0
+    pub reach-falls : {d e : ℕ} → Reach s d e → getD height e 0 < getD height d 0
     reach-falls {d} {e} (direct m i q) = rw q at (h .falls d m i)
     reach-falls {d} {e} (onward m i r) = omega (arith, reach-falls r, h .falls d m i)
 
     no-loop : (d : ℕ) → reaches s d d ≡ false
     no-loop d = by-cases (reaches s d d) (λ e. absurd (omega (arith, reach-falls (reaches-plain s d d e)))) (λ e. e)
 
-    none-6 : fault₆ s ≡ none
+    pub none-6 : fault₆ s ≡ none
     unfolding fault₆
     none-6 = first-none (λ d. reaches s d d) (definitions s) (λ d i. no-loop d)
 

@@ -40,9 +40,9 @@ module _ (s : Recipe) where
         let x = from (r .path) (a .0) in
         omega (arith, aimed-number s h₈ r h, aimed-is s r x (a .1), number-few s h₇ x (aim-in s h₇ r x h (a .1)))
 
-    links : (hold model count sub nxt ord own rel off : List ℕ) (n : ℕ) → Lower s hold model count sub nxt ord own n → fault₈ s ≡ none → Offsets s off → Numbered s off rel (length (s .bytes))
+    links : (hold model count sub nxt ord own height rel off : List ℕ) → Lower s hold model count sub nxt ord own height → fault₈ s ≡ none → Offsets s off → Numbered s off rel (length (s .bytes))
         → Links s hold rel own ord
-    links hold model count sub nxt ord own rel off n L h₈ o f = record {
+    links hold model count sub nxt ord own height rel off L h₈ o f = record {
       holds = L .ground .holds;
       reaches = λ x i.
           let d : holder s (x .place) ≡ definitionAt s (x .path) = pointer-holder s x i in
@@ -57,15 +57,15 @@ module _ (s : Recipe) where
   not-large e = rw e
 
   -- what row 9 needs
-  pub ready : (hold model count sub nxt ord own rel off inst : List ℕ) (n j : ℕ) → Lower s hold model count sub nxt ord own n → isTooLarge s ≡ false → fault₈ s ≡ none
+  pub ready : (hold model count sub nxt ord own height rel off inst : List ℕ) (j : ℕ) → Lower s hold model count sub nxt ord own height → isTooLarge s ≡ false → fault₈ s ≡ none
       → Instances s inst j → Offsets s off → Numbered s off rel (length (s .bytes)) → Ready s hold rel own ord inst j
-  ready hold model count sub nxt ord own rel off inst n j L e h₈ t o f = record {
+  ready hold model count sub nxt ord own height rel off inst j L e h₈ t o f = record {
     narrow = L .ground .narrow;
     short = L .ground .short;
     whole = L .ground .whole;
     declared = L .ground .declared;
     small = not-large e;
     aims = h₈;
-    links = links (not-large e) hold model count sub nxt ord own rel off n L h₈ o f;
+    links = links (not-large e) hold model count sub nxt ord own height rel off L h₈ o f;
     tree = t;
   }

@@ -11,3 +11,5 @@ pub mod Resolving
 pub mod Untargeted
 pub mod ByRecord
 pub mod Misclassed
+pub mod ByHeight
+pub mod Counting

@@ -135,7 +135,7 @@ module _ (s : Recipe) where
   -- ---- more records on the way change nothing, where row 6 does not apply
   module _ (f g : ℕ → Option Node) where
     -- the ports of a definition have one target by f and by g
-    abbrev Agree : ℕ → Type 0
+    abbrev pub Agree : ℕ → Type 0
     Agree d = (q : ℕ) → In q (ports s d) → f q ≡ g q
 
     named-same : (d w : ℕ) (t : List ℕ) → Agree d → targetNamed s f d w t ≡ targetNamed s g d w t
@@ -159,7 +159,7 @@ module _ (s : Recipe) where
         rw (p, targetBelow)
         (ap (Option·map (through m)) (below-same (modelOf s m) ns w t (h (modelOf s m) (direct m i refl)) (λ e r. h e (onward m i r)))))
 
-    by-same : (r : ℕ) → ((e : ℕ) → Reach s (holder s r) e → Agree e) → targetBy s f r ≡ targetBy s g r
+    pub by-same : (r : ℕ) → ((e : ℕ) → Reach s (holder s r) e → Agree e) → targetBy s f r ≡ targetBy s g r
     unfolding targetBy submodelNames targetBelow
     by-same r h =
         by-cases (isBlank (submodelField s r))

@@ -1,56 +1,39 @@
 -- Row 7, and the tables that the walk from main leaves.
 -- Assumes nothing.
-use Prim.Native.Nat.{_*_, _+_, _<_, _≤_, suc, zero, ℕ}
-use borrow.Author.Tests.{lt-ltb, ltb-true}
-use lib.Dec.{eqb, ltb}
+use Prim.Native.Nat.{_*_, _+_, _-_, _<_, _≤_, suc, zero, ℕ}
+use borrow.Author.Tests.{lt-ltb, ltb-false, ltb-true}
+use lib.Dec.{ltb}
 use lib.ListN.{List·getD-append, drop, getD, length, length-append, length-map}
-use lib.Seq.{getD-drop, sets-eq}
+use lib.Seq.{getD-append-add, sets-eq}
 use mathlib.Core.Bool.{Bool, Bool·not-not, _||_, false, not, or-false, true}
-use mathlib.Core.List.{List, [], _++_, _∷_, map}
-use mathlib.Core.Logic.{inl, inr}
+use mathlib.Core.List.{List, [], _++_, _∷_, append-assoc, append-nil, map}
+use mathlib.Core.Logic.{inl}
 use mathlib.Core.Path.{_∙_, _≡_, ap, refl, sym}
+use native.Mathlib.Nat.{add-zero}
+use native.Mathlib.Numerals.{add-one}
 use native.Mathlib.Omega.{arith}
 use Rattle.names.specs.Lists.{In, any, joined}
-use Rattle.names.proofs.Lists.{any-in, any-some, map-same}
-use Rattle.names.proofs.ListOrder.{Rising, rising-in}
+use Rattle.names.proofs.Lists.{any-in, any-some, append-left, append-right}
 use Rattle.names.proofs.Tests.{both-ways, by-cases, or-left, or-right}
 use Rattle.flat_table.specs.Table.{mostRows}
 use Rattle.recipe.specs.Definitions.{elements, main, modelOf, submodels}
 use Rattle.recipe.specs.Records.{Recipe}
 use Rattle.tree.specs.Faults.{isTooLarge, mostInstances}
-use Rattle.tree.specs.Numbers.{Instances, ahead, firstAt, firstBelow, total, upTo, weight, weightIn}
+use Rattle.tree.specs.Numbers.{Instances, ahead, firstAt, firstBelow, total, weightIn}
 use Rattle.tree.specs.Tree.{Submodels, definitionAt, definitionBelow, instances, mostDepth, nodes, pathsBelow, treeElements}
 use Rattle.tree.specs.Walk.{Covered, Grown, Long, Offsets, Right, deepIn, instsIn, over, rowsIn, rowsOver}
-use Rattle.tree.proofs.Instances.{below-submodels, depth, paths-suffice, submodels-below}
-use Rattle.tree.proofs.Numbering.{Shallow, joined-append, map-append, numberBelow, numbers, run-length, submodels-rise, total-cong, upTo-head, upTo-tail, weight-enough, weight-is}
-use Rattle.tree.proofs.Walks.{Out, answer-yes, not-deep, over-not, rows-long}
+use Rattle.tree.proofs.Instances.{below-append, below-submodels, depth, paths-suffice, submodels-below}
+use Rattle.tree.proofs.Walks.{Out, ahead-split, answer-yes, instsAt, not-deep, over-not, rows-long, rowsAt, rowsUnder, total-append, weightAt}
+use Rattle.tree.proofs.Numbering.{Shallow, joined-append, map-append, numberBelow, numbers, run-length, total-cong, weight-enough}
 
 joined-total : {A : Type 0} (f : ℕ → List A) (ms : List ℕ) → length (joined (map f ms)) ≡ total (λ m. length (f m)) ms
 joined-total f [] = refl
 joined-total f (m ∷ ms) = omega (arith, length-append (f m) (joined (map f ms)), joined-total f ms)
 
--- of a rising list, the rows of each at its own start
-rows-joined : (f : ℕ → ℕ → ℕ → List ℕ) (w : ℕ → ℕ) (k e p : ℕ) (xs : List ℕ) → Rising p xs → rowsOver f w k e xs ≡ joined (map (λ m. f m k (e + upTo w m xs)) xs)
-rows-joined f w k e p [] h = refl
-rows-joined f w k e p (x ∷ xs) h =
-    let q : e ≡ e + upTo w x (x ∷ xs) = omega (arith, upTo-head w x xs) in
-    ap (λ (j : ℕ). f x k j ++ rowsOver f w k (e + w x) xs) q
-    ∙ ap (λ (l : List ℕ). f x k (e + upTo w x (x ∷ xs)) ++ l)
-    (rows-joined f w k (e + w x) (suc x) xs (h .1)
-    ∙ ap joined (map-same (λ m. f m k (e + w x + upTo w m xs)) (λ m. f m k (e + upTo w m (x ∷ xs))) xs
-    (λ m i. ap (λ (j : ℕ). f m k j) (omega (arith, upTo-tail w m x xs (rising-in (suc x) xs m (h .1) i))))))
-
-module _ {A B : Type 0} (F : A → List B) where
-  pieces₀ : (sub : ℕ → List A) (h : ℕ → List B) (ms : List ℕ) → ((m : ℕ) → In m ms → joined (map F (sub m)) ≡ h m)
-      → joined (map F (joined (map sub ms))) ≡ joined (map h ms)
-  pieces₀ sub h [] e = refl
-  pieces₀ sub h (m ∷ ms) e =
-      ap joined (map-append F (sub m) (joined (map sub ms))) ∙ joined-append (map F (sub m)) (map F (joined (map sub ms)))
-      ∙ rw (e m (inl refl), pieces₀ sub h ms (λ k i. e k (inr i)))
-
-  shift₀ : {D : Type 0} (c : D → A) (F′ : D → List B) (ps : List D) → ((p : D) → F (c p) ≡ F′ p) → joined (map F (map c ps)) ≡ joined (map F′ ps)
-  shift₀ c F′ [] e = refl
-  shift₀ c F′ (p ∷ ps) e = rw (e p, shift₀ c F′ ps e)
+map-at : {A B : Type 0} (f : A → B) (l : List A) (i : ℕ) (a : A) (b : B) → i < length l → getD (map f l) i b ≡ f (getD l i a)
+map-at f [] i a b h = absurd (omega arith)
+map-at f (x ∷ l) zero a b h = refl
+map-at f (x ∷ l) (suc i) a b h = map-at f l i a b (omega arith)
 
 module _ (s : Recipe) where
   -- ---- depth
@@ -80,17 +63,19 @@ module _ (s : Recipe) where
       any-in (λ path. ltb n (length path)) (pathsBelow (suc n) s d) (b .0) (submodels-below s (suc n) d (b .0) (b .1) (omega arith)) (lt-ltb n (length (b .0)) (omega arith)))
 
   -- ---- counts
+  -- the paths through the submodel m
+  abbrev pathsAt : ℕ → ℕ → List (List ℕ)
+  pathsAt n m = map (λ path. m ∷ path) (pathsBelow n s (modelOf s m))
+
+  paths-total : (n : ℕ) (xs : List ℕ) → ((d : ℕ) → length (pathsBelow n s d) ≡ instsIn n s d) → length (joined (map (pathsAt n) xs)) ≡ total (instsAt s n) xs
+  paths-total n xs h =
+      joined-total (pathsAt n) xs
+      ∙ total-cong (λ m. length (pathsAt n m)) (instsAt s n) xs (λ m i. length-map (pathsBelow n s (modelOf s m)) (λ path. m ∷ path) ∙ h (modelOf s m))
+
   insts-are : (n d : ℕ) → length (pathsBelow n s d) ≡ instsIn n s d
   unfolding pathsBelow instsIn
   insts-are zero d = refl
-  insts-are (suc n) d =
-      let sub : ℕ → List (List ℕ) = λ m. map (λ path. m ∷ path) (pathsBelow n s (modelOf s m)) in
-      omega (
-        arith,
-        joined-total sub (submodels s d),
-        total-cong (λ m. length (sub m)) (λ m. instsIn n s (modelOf s m)) (submodels s d)
-            (λ m i. length-map (pathsBelow n s (modelOf s m)) (λ path. m ∷ path) ∙ insts-are n (modelOf s m)),
-      )
+  insts-are (suc n) d = omega (arith, paths-total n (submodels s d) (insts-are n))
 
   shallow-paths : (n d : ℕ) → Shallow s n d → (path : List ℕ) → Submodels s d path → length path ≤ n
   shallow-paths n d h [] p = omega arith
@@ -111,6 +96,9 @@ module _ (s : Recipe) where
       sym (length-map (treeElements s) (λ x. 0 + numberBelow s main x))
       ∙ ap length (numbers s 5 0 main h (omega arith)) ∙ run-length 0 (weightIn 5 s main)
 
+  tree-weight : Shallow s 4 main → length (treeElements s) ≡ weightIn 4 s main
+  tree-weight h = tree-length (shallow-more 4 main h) ∙ weight-enough s 4 5 main h (omega arith)
+
   -- row 7, by the walk's counts
   pub too-large : isTooLarge s ≡ over 4 s main 0 0
   unfolding isTooLarge over instances mostDepth mostInstances mostRows
@@ -123,7 +111,7 @@ module _ (s : Recipe) where
       (λ e.
       let h : Shallow s 4 main = not-deep s 4 main e in
       let a : length (instances s) ≡ 0 + instsIn 4 s main = ap length (paths-enough 4 5 main h (omega arith)) ∙ insts-are 4 main ∙ omega arith in
-      let w : length (treeElements s) ≡ 0 + weightIn 4 s main = tree-length (shallow-more 4 main h) ∙ weight-enough s 4 5 main h (omega arith) ∙ omega arith in
+      let w : length (treeElements s) ≡ 0 + weightIn 4 s main = tree-weight h ∙ omega arith in
       ap (λ (z : ℕ). ltb 64 z || any (λ path. ltb 4 (length path)) (instances s) || ltb 1024 (length (treeElements s))) a
       ∙ ap (λ (b : Bool). ltb 64 (0 + instsIn 4 s main) || b || ltb 1024 (length (treeElements s))) (D ∙ e)
       ∙ ap (λ (z : ℕ). ltb 64 (0 + instsIn 4 s main) || false || ltb 1024 z) w
@@ -131,56 +119,132 @@ module _ (s : Recipe) where
       ∙ sym (ap (λ (b : Bool). ltb 64 (0 + instsIn 4 s main) || ltb 1024 (0 + weightIn 4 s main) || b) e ∙ or-false (ltb 64 (0 + instsIn 4 s main) || ltb 1024 (0 + weightIn 4 s main))))
 
   -- ---- the rows are those of the instances
-  abbrev row : ℕ → ℕ → ℕ → List ℕ → List ℕ
-  row d k e path = definitionBelow s d path ∷ (k + length path) ∷ (e + firstBelow s d path) ∷ []
+  pub first-append : (d : ℕ) (p q : List ℕ) → firstBelow s d (p ++ q) ≡ firstBelow s d p + firstBelow s (definitionBelow s d p) q
+  unfolding firstBelow definitionBelow
+  first-append d [] q = omega arith
+  first-append d (m ∷ p) q = omega (arith, first-append (modelOf s m) p q)
 
-  same-row : (a b b′ c c′ : ℕ) → b ≡ b′ → c ≡ c′ → a ∷ b ∷ c ∷ [] ≡ a ∷ b′ ∷ c′ ∷ []
-  same-row a b b′ c c′ p q = cc
+  -- the paths through m, behind those through xs
+  paths-at : (n m j : ℕ) (xs ys : List ℕ) → j < instsAt s n m
+      → getD (joined (map (pathsAt n) (xs ++ m ∷ ys))) (total (instsAt s n) xs + j) [] ≡ m ∷ getD (pathsBelow n s (modelOf s m)) j []
+  paths-at n m j xs ys h =
+      let A = joined (map (pathsAt n) xs) in
+      let B = joined (map (pathsAt n) ys) in
+      let L : length A ≡ total (instsAt s n) xs = paths-total n xs (insts-are n) in
+      let P : joined (map (pathsAt n) (xs ++ m ∷ ys)) ≡ A ++ (pathsAt n m ++ B) =
+      ap joined (map-append (pathsAt n) xs (m ∷ ys)) ∙ joined-append (map (pathsAt n) xs) (map (pathsAt n) (m ∷ ys)) in
+      ap (λ (l : List (List ℕ)). getD l (total (instsAt s n) xs + j) []) P
+      ∙ ap (λ (z : ℕ). getD (A ++ (pathsAt n m ++ B)) (z + j) []) (sym L)
+      ∙ getD-append-add A (pathsAt n m ++ B) j []
+      ∙ List·getD-append (pathsAt n m) B [] j (omega (arith, length-map (pathsBelow n s (modelOf s m)) (λ path. m ∷ path), insts-are n (modelOf s m)))
+      ∙ map-at (λ path. m ∷ path) (pathsBelow n s (modelOf s m)) j [] [] (omega (arith, insts-are n (modelOf s m)))
 
-  ends : (a b b′ c c′ : ℕ) (x y : List ℕ) → b ≡ b′ → c ≡ c′ → x ≡ y → a ∷ b ∷ c ∷ x ≡ a ∷ b′ ∷ c′ ∷ y
-  ends a b b′ c c′ x y p q r = cc
+  -- an instance's row, by column
+  abbrev five : ℕ → ℕ → ℕ → ℕ → ℕ → ℕ → ℕ
+  five d k e m u c = getD (d ∷ k ∷ e ∷ m ∷ u ∷ []) c 0
 
-  upTo-cong : (f g : ℕ → ℕ) (m : ℕ) (xs : List ℕ) → ((x : ℕ) → In x xs → f x ≡ g x) → upTo f m xs ≡ upTo g m xs
-  upTo-cong f g m [] h = refl
-  upTo-cong f g m (x ∷ xs) h =
-      by-cases (eqb x m) (λ e. rw (e, upTo)) (λ e. rw (e, upTo) (rw (h x (inl refl), upTo-cong f g m xs (λ y i. h y (inr i)))))
+  -- look gives an instance's path by its number
+  module _ (look : ℕ → List ℕ) where
+    -- the five numbers are those of the instance i at the path
+    record Row (i : ℕ) (path : List ℕ) (f : ℕ → ℕ) : Type 0 where
+      pub model : f 0 ≡ definitionBelow s main path
+      pub depth : f 1 ≡ length path
+      pub start : f 2 ≡ firstBelow s main path
+      pub above : 0 < i → (f 4 < i) × (path ≡ look (f 4) ++ (f 3 ∷ []))
 
-  ahead-eq : (n d m e : ℕ) → Shallow s (suc n) d → (z : ℕ) → n ≤ 5
-      → e + (ahead s d m + z) ≡ e + length (elements s d) + upTo (λ j. weightIn n s (modelOf s j)) m (submodels s d) + z
-  unfolding ahead
-  ahead-eq n d m e h z l =
-      omega (arith, upTo-cong (λ j. weight s (modelOf s j)) (λ j. weightIn n s (modelOf s j)) m (submodels s d) (λ x i. weight-is s n (modelOf s x) (h x i) l))
+    row-same : {i j : ℕ} (p q : List ℕ) (f g : ℕ → ℕ) → i ≡ j → p ≡ q → ((c : ℕ) → c < 5 → f c ≡ g c) → Row i p f → Row j q g
+    row-same p q f g a b h r =
+        rw (sym a, sym b) record {
+          model = sym (h 0 (omega arith)) ∙ r .model;
+          depth = sym (h 1 (omega arith)) ∙ r .depth;
+          start = sym (h 2 (omega arith)) ∙ r .start;
+          above = rw (sym (h 3 (omega arith)), sym (h 4 (omega arith))) (r .above);
+        }
 
-  rows-are : (n d k e : ℕ) → Shallow s n d → n ≤ 5 → rowsIn n s d k e ≡ joined (map (row d k e) (pathsBelow n s d))
-  unfolding rowsIn pathsBelow definitionBelow firstBelow
-  rows-are zero d k e h l = three d k (k + 0) e (e + 0) (omega arith) (omega arith)
-    where
-      three : (a b b′ c c′ : ℕ) → b ≡ b′ → c ≡ c′ → a ∷ b ∷ c ∷ [] ≡ a ∷ b′ ∷ c′ ∷ []
-      three a b b′ c c′ p q = cc
-  rows-are (suc n) d k e h l =
-      let w : ℕ → ℕ = λ m. weight s (modelOf s m) in
-      let E = e + length (elements s d) in
-      let sub : ℕ → List (List ℕ) = λ m. map (λ path. m ∷ path) (pathsBelow n s (modelOf s m)) in
-      let R : rowsOver (λ m. rowsIn n s (modelOf s m)) (λ m. weightIn n s (modelOf s m)) (suc k) E (submodels s d) ≡ joined (map (row d k e) (joined (map sub (submodels s d)))) =
-      rows-joined (λ m. rowsIn n s (modelOf s m)) (λ m. weightIn n s (modelOf s m)) (suc k) E 0 (submodels s d) (submodels-rise s d)
-      ∙ sym (pieces₀ (row d k e) sub (λ m. rowsIn n s (modelOf s m) (suc k) (E + upTo (λ j. weightIn n s (modelOf s j)) m (submodels s d))) (submodels s d)
-      (λ m i.
-      sym (rows-are n (modelOf s m) (suc k) (E + upTo (λ j. weightIn n s (modelOf s j)) m (submodels s d)) (h m i) (omega arith)
-      ∙ sym (shift₀ (row d k e) (λ path. m ∷ path) (row (modelOf s m) (suc k) (E + upTo (λ j. weightIn n s (modelOf s j)) m (submodels s d))) (pathsBelow n s (modelOf s m))
-      (λ path. same-row (definitionBelow s (modelOf s m) path) _ _ _ _ (omega arith) (ahead-eq n d m e (h) (firstBelow s (modelOf s m) path) (omega arith))))))) in
-      ends d k (k + 0) e (e + 0) _ _ (omega arith) (omega arith) R
+    -- c rows, those of the instances from i on
+    abbrev Rows : ℕ → ℕ → List ℕ → Type 0
+    Rows i c R = (j : ℕ) → j < c → Row (i + j) (look (i + j)) (λ k. getD R (5 * j + k) 0)
 
-  row-at : (d k e : ℕ) (ps : List (List ℕ)) (i : ℕ) → i < length ps
-      → (rest : List ℕ) × (drop (3 * i) (joined (map (row d k e) ps)) ≡ row d k e (getD ps i []) ++ rest)
-  row-at d k e [] i h = absurd (omega arith)
-  row-at d k e (p ∷ ps) zero h = (joined (map (row d k e) ps), refl)
-  row-at d k e (p ∷ ps) (suc i) h =
-      let r = row-at d k e ps i (omega arith) in
-      let q : 3 * suc i ≡ suc (suc (suc (3 * i))) = omega arith in
-      (r .0, ap (λ (z : ℕ). drop z (joined (map (row d k e) (p ∷ ps)))) q ∙ r .1)
+    one-row : (i : ℕ) (p l : List ℕ) → look (i + 0) ≡ p → Row i p (λ c. getD l c 0) → Rows i 1 l
+    one-row i p l q r zero h =
+        row-same p (look (i + 0)) (λ c. getD l c 0) (λ c. getD l (5 * 0 + c) 0) (sym (add-zero i)) (sym q) (λ c b. ap (λ (y : ℕ). getD l y 0) (omega arith)) r
+    one-row i p l q r (suc j) h = absurd (omega arith)
+
+    rows-join : (i a b : ℕ) (A B : List ℕ) → length A ≡ 5 * a → Rows i a A → Rows (i + a) b B → Rows i (a + b) (A ++ B)
+    rows-join i a b A B l p q j h =
+        by-cases (ltb j a)
+        (λ z.
+        let v : j < a = ltb-true j a z in
+        row-same _ _ (λ c. getD A (5 * j + c) 0) (λ c. getD (A ++ B) (5 * j + c) 0) refl refl (λ c k. sym (List·getD-append A B 0 (5 * j + c) (omega arith))) (p j v))
+        (λ z.
+        let v : a ≤ j = ltb-false j a z in
+        let w : i + a + (j - a) ≡ i + j = omega arith in
+        row-same (look (i + a + (j - a))) (look (i + j)) (λ c. getD B (5 * (j - a) + c) 0) (λ c. getD (A ++ B) (5 * j + c) 0) w (ap look w)
+        (λ c k.
+        let y : length A + (5 * (j - a) + c) ≡ 5 * j + c = omega arith in
+        sym (getD-append-add A B (5 * (j - a) + c) 0) ∙ ap (λ (x : ℕ). getD (A ++ B) x 0) y)
+        (q (j - a) (omega arith)))
+
+    -- those of subtrees, one after another
+    over-rows : (f : ℕ → ℕ → ℕ → List ℕ) (w c : ℕ → ℕ) (e i : ℕ) (ms : List ℕ) → ((m x j : ℕ) → length (f m x j) ≡ 5 * c m)
+        → ((xs ys : List ℕ) (m : ℕ) → ms ≡ xs ++ m ∷ ys → Rows (i + total c xs) (c m) (f m (e + total w xs) (i + total c xs)))
+        → Rows i (total c ms) (rowsOver f w c e i ms)
+    over-rows f w c e i [] l h = λ j z. absurd (omega arith)
+    over-rows f w c e i (m ∷ ms) l h =
+        let first : Rows i (c m) (f m e i) = rw (add-zero i, add-zero e) at (h [] ms m refl) in
+        rows-join i (c m) (total c ms) (f m e i) (rowsOver f w c (e + w m) (i + c m) ms) (l m e i) first
+        (over-rows f w c (e + w m) (i + c m) ms l
+        (λ xs ys k q.
+        let a : i + c m + total c xs ≡ i + total c (m ∷ xs) = omega arith in
+        let b : e + w m + total w xs ≡ e + total w (m ∷ xs) = omega arith in
+        rw (a, b) (h (m ∷ xs) ys k (ap (λ (l : List ℕ). m ∷ l) q))))
+
+    -- the submodel q of the instance i
+    sub-row : (n d k e i m u q : ℕ) (pre xs ys : List ℕ) → Row i pre (five d k e m u) → look i ≡ pre → submodels s d ≡ xs ++ q ∷ ys → Shallow s (suc n) d → n ≤ 5
+        → Row (suc i + total (instsAt s n) xs) (pre ++ q ∷ []) (five (modelOf s q) (suc k) (e + length (elements s d) + total (weightAt s n) xs) q i)
+    unfolding definitionBelow firstBelow
+    sub-row n d k e i m u q pre xs ys r o t h l = record {
+      model = sym (below-append s main pre (q ∷ []));
+      depth = omega (arith, length-append pre (q ∷ []), r .depth);
+      start = omega (
+        arith,
+        first-append main pre (q ∷ []),
+        r .start,
+        ap (λ (z : ℕ). ahead s z q) (r .model),
+        ahead-split s n d q xs ys t (λ x y. h x (rw t (append-left xs (q ∷ ys) x y))) l,
+      );
+      above = λ z. (omega arith, ap (λ (y : List ℕ). y ++ q ∷ []) (sym o));
+    }
+
+    -- the tree below the instance i
+    below-rows : (n d k e i m u : ℕ) (pre : List ℕ) → Shallow s n d → n ≤ 5 → Row i pre (five d k e m u)
+        → ((j : ℕ) → j < instsIn n s d → look (i + j) ≡ pre ++ getD (pathsBelow n s d) j []) → Rows i (instsIn n s d) (rowsIn n s d k e i m u)
+    unfolding rowsIn instsIn pathsBelow
+    below-rows zero d k e i m u pre h l r looks = one-row i pre (d ∷ k ∷ e ∷ m ∷ u ∷ []) (looks 0 (omega arith) ∙ append-nil pre) r
+    below-rows (suc n) d k e i m u pre h l r looks =
+        let o : look (i + 0) ≡ pre = looks 0 (omega arith) ∙ append-nil pre in
+        let S = submodels s d in
+        let C = instsAt s n in
+        let piece : (xs ys : List ℕ) (q : ℕ) → S ≡ xs ++ q ∷ ys
+        → Rows (suc i + total C xs) (C q) (rowsAt s n (suc k) i q (e + length (elements s d) + total (weightAt s n) xs) (suc i + total C xs)) =
+        λ xs ys q t.
+        below-rows n (modelOf s q) (suc k) (e + length (elements s d) + total (weightAt s n) xs) (suc i + total C xs) q i (pre ++ q ∷ [])
+        (h q (rw t (append-right xs (q ∷ ys) q (inl refl)))) (omega arith)
+        (sub-row n d k e i m u q pre xs ys r (ap look (sym (add-zero i)) ∙ o) t h (omega arith))
+        (λ j y.
+        let T : total C S ≡ total C xs + (C q + total C ys) = ap (total C) t ∙ total-append C xs (q ∷ ys) in
+        let a : suc i + total C xs + j ≡ i + suc (total C xs + j) = omega arith in
+        ap look a
+        ∙ looks (suc (total C xs + j)) (omega arith)
+        ∙ ap (λ (z : List ℕ). pre ++ getD (joined (map (pathsAt n) z)) (total C xs + j) []) t
+        ∙ ap (λ (z : List ℕ). pre ++ z) (paths-at n q j xs ys y)
+        ∙ sym (append-assoc pre (q ∷ []) (getD (pathsBelow n s (modelOf s q)) j []))) in
+        let under : Rows (suc i) (total C S) (rowsUnder s n d k e i S) =
+        over-rows (rowsAt s n (suc k) i) (weightAt s n) C (e + length (elements s d)) (suc i) S (λ q x j. rows-long s n (modelOf s q) (suc k) x j q i) piece in
+        rows-join i 1 (total C S) (d ∷ k ∷ e ∷ m ∷ u ∷ []) (rowsUnder s n d k e i S) refl (one-row i pre (d ∷ k ∷ e ∷ m ∷ u ∷ []) o r) (rw add-one under)
 
   -- the tables after a walk from main that goes through
-  module _ (inst off inst′ off′ : List ℕ) (j x : ℕ) (g : Grown s 4 main 0 0 inst off inst′ off′ j x) (fits : over 4 s main 0 0 ≡ false) (long : length inst ≡ 192) where
+  module _ (inst off inst′ off′ : List ℕ) (j x : ℕ) (g : Grown s 4 main 0 0 0 0 inst off inst′ off′ j x) (fits : over 4 s main 0 0 ≡ false) (long : length inst ≡ 320) where
     shallow : Shallow s 4 main
     shallow = not-deep s 4 main (over-not s 4 main 0 0 fits .flat)
 
@@ -191,38 +255,39 @@ module _ (s : Recipe) where
     count-is : j ≡ length (instances s)
     count-is = g .insts ∙ omega (arith, ap length paths-are, insts-are 4 main)
 
-    table-at : (i c : ℕ) → i < j → c < 3 → getD inst′ (3 * i + c) 0 ≡ getD (row main 0 0 (getD (instances s) i [])) c 0
-    table-at i c h l =
-        let R = rowsIn 4 s main 0 0 in
+    abbrev look : ℕ → List ℕ
+    look i = getD (instances s) i []
+
+    row-at : (i : ℕ) → i < j → Row look i (look i) (λ c. getD inst′ (5 * i + c) 0)
+    unfolding definitionBelow firstBelow
+    row-at i h =
+        let R = rowsIn 4 s main 0 0 0 0 0 in
         let I = g .insts in
         let F = over-not s 4 main 0 0 fits .few in
-        let L : length R ≡ 3 * instsIn 4 s main = rows-long s 4 main 0 0 in
-        let w : i < length (pathsBelow 4 s main) = omega (arith, insts-are 4 main) in
-        let r = row-at main 0 0 (pathsBelow 4 s main) i w in
-        let z : 3 * 0 ≡ 0 = omega arith in
-        ap (λ (y : List ℕ). getD y (3 * i + c) 0) (g .rows ∙ sets-eq R inst 0 (omega arith))
-        ∙ List·getD-append R (drop (0 + length R) inst) 0 (3 * i + c) (omega arith)
-        ∙ sym (getD-drop (3 * i) R c 0)
-        ∙ ap (λ (y : List ℕ). getD (drop (3 * i) y) c 0) (rows-are 4 main 0 0 shallow (omega arith))
-        ∙ ap (λ (y : List ℕ). getD y c 0) (r .1)
-        ∙ List·getD-append (row main 0 0 (getD (pathsBelow 4 s main) i [])) (r .0) 0 c l
-        ∙ ap (λ (y : List (List ℕ)). getD (row main 0 0 (getD y i [])) c 0) (sym paths-are)
+        let L : length R ≡ 5 * instsIn 4 s main = rows-long s 4 main 0 0 0 0 0 in
+        let z : 0 + i ≡ i = omega arith in
+        let top : Row look 0 [] (five main 0 0 0 0) = record { model = refl; depth = refl; start = refl; above = λ y. absurd (omega arith) } in
+        let rows = below-rows look 4 main 0 0 0 0 0 [] shallow (omega arith) top
+        (λ y k. ap look (omega arith) ∙ ap (λ (l : List (List ℕ)). getD l y []) paths-are) in
+        row-same look (look (0 + i)) (look i) (λ c. getD R (5 * i + c) 0) (λ c. getD inst′ (5 * i + c) 0) z (ap look z)
+        (λ c k.
+        sym (ap (λ (y : List ℕ). getD y (5 * i + c) 0) (g .rows ∙ sets-eq R inst 0 (omega arith))
+        ∙ List·getD-append R (drop (0 + length R) inst) 0 (5 * i + c) (omega arith)))
+        (rows i (omega arith))
 
     pub instances-table : Instances s inst′ j
     unfolding definitionAt firstAt
     instances-table = record {
       count = count-is;
       few = omega (arith, g .insts, over-not s 4 main 0 0 fits .few);
-      model = λ i h. ap (λ (y : ℕ). getD inst′ y 0) (sym (zero-more (3 * i))) ∙ table-at i 0 h (omega arith);
-      depth = λ i h. table-at i 1 h (omega arith) ∙ zero-less (length (getD (instances s) i []));
-      start = λ i h. table-at i 2 h (omega arith) ∙ zero-less (firstBelow s main (getD (instances s) i []));
+      model = λ i h. ap (λ (y : ℕ). getD inst′ y 0) (sym (add-zero (5 * i))) ∙ row-at i h .model;
+      depth = λ i h. row-at i h .depth;
+      start = λ i h. row-at i h .start;
+      above = λ i h. row-at i h .above;
     }
-      where
-        zero-more : (a : ℕ) → a + 0 ≡ a
-        zero-more a = omega arith
 
-        zero-less : (a : ℕ) → 0 + a ≡ a
-        zero-less a = omega arith
+    pub elements-are : x ≡ length (treeElements s)
+    elements-are = omega (arith, g .elems, tree-weight shallow)
 
     covered-right : (n d : ℕ) (path : List ℕ) → Covered n s d off′ → Shallow s n d → Submodels s d path → (m : ℕ) → In m (submodels s (definitionBelow s d path)) → Right s off′ m
     unfolding Covered definitionBelow
@@ -235,15 +300,17 @@ module _ (s : Recipe) where
     unfolding definitionAt instances
     offsets-table = record { right = λ path i m k. covered-right 4 main path (g .covers) shallow (below-submodels s _ main path i) m k }
 
-pub planted : (s : Recipe) (ok : Bool) (inst off inst′ off′ : List ℕ) (j x : ℕ) → Out s 4 main 0 0 inst off inst′ off′ ok j x → Long inst off
-    → (not ok ≡ isTooLarge s) × ((not ok ≡ false → Instances s inst′ j × Offsets s off′) × Long inst′ off′)
+pub planted : (s : Recipe) (ok : Bool) (inst off inst′ off′ : List ℕ) (j x : ℕ) → Out s 4 main 0 0 0 0 inst off inst′ off′ ok j x → Long inst off
+    → (not ok ≡ isTooLarge s) × ((not ok ≡ false → Instances s inst′ j × (Offsets s off′ × (x ≡ length (treeElements s)))) × Long inst′ off′)
 planted s ok inst off inst′ off′ j x h l = (
   ap not (h .0) ∙ Bool·not-not (over 4 s main 0 0) ∙ sym (too-large s),
   (
     (λ e.
         let y = answer-yes ok (over 4 s main 0 0) (h .0) e in
-        let g = h .1 .0 (y .0) in
-        (instances-table s inst off inst′ off′ j x g (y .1) (l .insts), offsets-table s inst off inst′ off′ j x g (y .1) (l .insts))),
+        let g = h .1 .0 (y .0) in (
+          instances-table s inst off inst′ off′ j x g (y .1) (l .insts),
+          (offsets-table s inst off inst′ off′ j x g (y .1) (l .insts), elements-are s inst off inst′ off′ j x g (y .1) (l .insts)),
+        )),
     h .1 .1,
   ),
 )

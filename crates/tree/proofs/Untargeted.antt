@@ -12,7 +12,7 @@ use mathlib.Core.Path.{_∙_, _≡_, ap, sym}
 use native.Mathlib.Omega.{arith}
 use Rattle.names.specs.Lists.{In, isSome}
 use Rattle.names.proofs.Tests.{is-some, by-cases}
-use Rattle.recipe.specs.Definitions.{definitions, holder}
+use Rattle.recipe.specs.Definitions.{holder}
 use Rattle.recipe.specs.Records.{Recipe, isMark, isPort, next, places}
 use Rattle.recipe.proofs.Definitions.{in-elements}
 use Rattle.recipe.proofs.Reading.{place-low, places-between}
@@ -28,16 +28,16 @@ module _ (s : Recipe) where
   unfolding isTargetFault
   not-untargeted p k = rw k
 
-  pub missing : (p n : ℕ) (ok : Bool) (off : List ℕ) (pl nu : ℕ) → n ≡ length (definitions s) → isMark s p || isPort s p ≡ true → Resolved s off n p ok pl nu → not ok ≡ isTargetFault s p
-  unfolding target isTargetFault
-  missing p n ok off pl nu q k h = rw k (ap not (h .found ∙ ap (λ (j : ℕ). isSome (targetWithin j s p)) q))
+  pub missing : (p n : ℕ) (ok : Bool) (off : List ℕ) (pl nu : ℕ) → targetWithin n s p ≡ target s p → isMark s p || isPort s p ≡ true → Resolved s off n p ok pl nu → not ok ≡ isTargetFault s p
+  unfolding isTargetFault
+  missing p n ok off pl nu q k h = rw k (ap not (h .found ∙ ap isSome q))
 
   -- its number
-  reach-num : (off : List ℕ) (p n : ℕ) (ok : Bool) (pl nu : ℕ) → n ≡ length (definitions s) → ok ≡ true → Resolved s off n p ok pl nu → Known s off (holder s p) → nu ≡ reach s p
-  unfolding reach target
+  reach-num : (off : List ℕ) (p n : ℕ) (ok : Bool) (pl nu : ℕ) → targetWithin n s p ≡ target s p → ok ≡ true → Resolved s off n p ok pl nu → Known s off (holder s p) → nu ≡ reach s p
+  unfolding reach
   reach-num off p n ok pl nu q o h k =
       let t = is-some (targetWithin n s p) (sym (h .found) ∙ o) in
-      let u : targetWithin (length (definitions s)) s p ≡ some (t .0) = ap (λ (j : ℕ). targetWithin j s p) (sym q) ∙ t .1 in
+      let u : target s p ≡ some (t .0) = sym q ∙ t .1 in
       h .counts (t .0) (t .1) k ∙ rw (u, reach)
 
   pub numbered-start : (off rel : List ℕ) → Numbered s off rel 0
@@ -53,7 +53,7 @@ module _ (s : Recipe) where
   numbered-end off rel p b f r j m l = f r j m (omega arith)
 
   -- its number does not fit
-  pub numbered-large : (off rel : List ℕ) (p n : ℕ) (ok : Bool) (pl nu : ℕ) → n ≡ length (definitions s) → ok ≡ true → Resolved s off n p ok pl nu → 65536 ≤ nu
+  pub numbered-large : (off rel : List ℕ) (p n : ℕ) (ok : Bool) (pl nu : ℕ) → targetWithin n s p ≡ target s p → ok ≡ true → Resolved s off n p ok pl nu → 65536 ≤ nu
       → In p (places s) → Numbered s off rel p → Numbered s off rel (next s p)
   numbered-large off rel p n ok pl nu q o h b i f r j m l kn u =
       by-cases (eqb r p)
@@ -63,7 +63,7 @@ module _ (s : Recipe) where
       absurd (omega (arith, ap (reach s) z)))
       (λ e. f r j m (places-between s p r i j l (eqb-false r p e)) kn u)
 
-  pub numbered-more : (off rel : List ℕ) (p n : ℕ) (ok : Bool) (pl nu : ℕ) → n ≡ length (definitions s) → ok ≡ true → Resolved s off n p ok pl nu → p < length rel
+  pub numbered-more : (off rel : List ℕ) (p n : ℕ) (ok : Bool) (pl nu : ℕ) → targetWithin n s p ≡ target s p → ok ≡ true → Resolved s off n p ok pl nu → p < length rel
       → In p (places s) → Numbered s off rel p → Numbered s off (set rel p nu) (next s p)
   numbered-more off rel p n ok pl nu q o h b i f r j m l kn u =
       by-cases (eqb r p)
@@ -74,9 +74,8 @@ module _ (s : Recipe) where
       (λ e. getD-set-other rel p r nu 0 (eqb-false r p e) ∙ f r j m (places-between s p r i j l (eqb-false r p e)) kn u)
 
   -- ---- the table of places
-  target-of : (p n : ℕ) (ok : Bool) (off : List ℕ) (pl nu : ℕ) → n ≡ length (definitions s) → Resolved s off n p ok pl nu → (x : Node) → target s p ≡ some x → pl ≡ x .place
-  unfolding target
-  target-of p n ok off pl nu q h x e = h .at x (ap (λ (j : ℕ). targetWithin j s p) q ∙ e)
+  target-of : (p n : ℕ) (ok : Bool) (off : List ℕ) (pl nu : ℕ) → targetWithin n s p ≡ target s p → Resolved s off n p ok pl nu → (x : Node) → target s p ≡ some x → pl ≡ x .place
+  target-of p n ok off pl nu q h x e = h .at x (q ∙ e)
 
   -- a target's place is in the recipe
   pub target-low : (p n : ℕ) (ok : Bool) (off : List ℕ) (pl nu : ℕ) → ok ≡ true → Resolved s off n p ok pl nu → pl < length (s .bytes)
@@ -97,7 +96,7 @@ module _ (s : Recipe) where
   pub aims-end : (at : List ℕ) (p : ℕ) → length (s .bytes) ≤ p → Aims s at p → Aims s at (length (s .bytes))
   aims-end at p b f r j m l = f r j m (omega arith)
 
-  pub aims-more : (off at : List ℕ) (p n : ℕ) (ok : Bool) (pl nu : ℕ) → n ≡ length (definitions s) → Resolved s off n p ok pl nu → p < length at
+  pub aims-more : (off at : List ℕ) (p n : ℕ) (ok : Bool) (pl nu : ℕ) → targetWithin n s p ≡ target s p → Resolved s off n p ok pl nu → p < length at
       → In p (places s) → Aims s at p → Aims s (set at p pl) (next s p)
   aims-more off at p n ok pl nu q h b i f r j m l x t =
       by-cases (eqb r p)

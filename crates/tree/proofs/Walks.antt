@@ -29,19 +29,21 @@ pub sets-append : (xs l : List ℕ) (i : ℕ) (ys : List ℕ) → sets l i (xs +
 sets-append [] l i ys = rw add-zero
 sets-append (x ∷ xs) l i ys = sets-append xs (set l i x) (suc i) ys ∙ rw (suc-add, add-suc)
 
-total-append : (f : ℕ → ℕ) (xs ys : List ℕ) → total f (xs ++ ys) ≡ total f xs + total f ys
+pub total-append : (f : ℕ → ℕ) (xs ys : List ℕ) → total f (xs ++ ys) ≡ total f xs + total f ys
 total-append f [] ys = omega arith
 total-append f (x ∷ xs) ys = omega (arith, total-append f xs ys)
 
-rows-append : (f : ℕ → ℕ → ℕ → List ℕ) (w : ℕ → ℕ) (k e : ℕ) (xs ys : List ℕ)
-    → rowsOver f w k e (xs ++ ys) ≡ rowsOver f w k e xs ++ rowsOver f w k (e + total w xs) ys
-rows-append f w k e [] ys = rw add-zero
-rows-append f w k e (x ∷ xs) ys =
-    let A = rowsOver f w k (e + w x) xs in
+rows-append : (f : ℕ → ℕ → ℕ → List ℕ) (w c : ℕ → ℕ) (e i : ℕ) (xs ys : List ℕ)
+    → rowsOver f w c e i (xs ++ ys) ≡ rowsOver f w c e i xs ++ rowsOver f w c (e + total w xs) (i + total c xs) ys
+rows-append f w c e i [] ys = rw (add-zero e, add-zero i)
+rows-append f w c e i (x ∷ xs) ys =
+    let A = rowsOver f w c (e + w x) (i + c x) xs in
     let q : e + w x + total w xs ≡ e + total w (x ∷ xs) = omega arith in
-    ap (λ (l : List ℕ). f x k e ++ l) (rows-append f w k (e + w x) xs ys)
-    ∙ sym (append-assoc (f x k e) A (rowsOver f w k (e + w x + total w xs) ys))
-    ∙ ap (λ (j : ℕ). f x k e ++ A ++ rowsOver f w k j ys) q
+    let r : i + c x + total c xs ≡ i + total c (x ∷ xs) = omega arith in
+    ap (λ (l : List ℕ). f x e i ++ l) (rows-append f w c (e + w x) (i + c x) xs ys)
+    ∙ sym (append-assoc (f x e i) A (rowsOver f w c (e + w x + total w xs) (i + c x + total c xs) ys))
+    ∙ ap (λ (j : ℕ). f x e i ++ A ++ rowsOver f w c j (i + c x + total c xs) ys) q
+    ∙ ap (λ (j : ℕ). f x e i ++ A ++ rowsOver f w c (e + total w (x ∷ xs)) j ys) r
 
 -- of a rising list, those before m
 upTo-split : (f : ℕ → ℕ) (m p : ℕ) (xs ys : List ℕ) → Rising p (xs ++ m ∷ ys) → upTo f m (xs ++ m ∷ ys) ≡ total f xs
@@ -50,28 +52,37 @@ upTo-split f m p (x ∷ xs) ys h =
     let l = rising-in (suc x) (xs ++ m ∷ ys) m (h .1) (append-right xs (m ∷ ys) m (inl refl)) in
     rw (ne-eqb x m (λ e. omega arith), upTo) (ap (λ (j : ℕ). f x + j) (upTo-split f m (suc x) xs ys (h .1)))
 
-rows-length : (f : ℕ → ℕ → ℕ → List ℕ) (w c : ℕ → ℕ) (k e : ℕ) (xs : List ℕ) → ((m i j : ℕ) → length (f m i j) ≡ 3 * c m)
-    → length (rowsOver f w k e xs) ≡ 3 * total c xs
-rows-length f w c k e [] h = refl
-rows-length f w c k e (x ∷ xs) h =
-    omega (arith, length-append (f x k e) (rowsOver f w k (e + w x) xs), h x k e, rows-length f w c k (e + w x) xs h)
+rows-length : (f : ℕ → ℕ → ℕ → List ℕ) (w c : ℕ → ℕ) (e i : ℕ) (xs : List ℕ) → ((m x j : ℕ) → length (f m x j) ≡ 5 * c m)
+    → length (rowsOver f w c e i xs) ≡ 5 * total c xs
+rows-length f w c e i [] h = refl
+rows-length f w c e i (x ∷ xs) h =
+    omega (arith, length-append (f x e i) (rowsOver f w c (e + w x) (i + c x) xs), h x e i, rows-length f w c (e + w x) (i + c x) xs h)
 
 module _ (s : Recipe) where
   -- ---- the definitions, one level down
-  abbrev instsAt : ℕ → ℕ → ℕ
+  abbrev pub instsAt : ℕ → ℕ → ℕ
   instsAt n m = instsIn n s (modelOf s m)
 
-  abbrev weightAt : ℕ → ℕ → ℕ
+  abbrev pub weightAt : ℕ → ℕ → ℕ
   weightAt n m = weightIn n s (modelOf s m)
 
-  abbrev rowsAt : ℕ → ℕ → ℕ → ℕ → List ℕ
-  rowsAt n m = rowsIn n s (modelOf s m)
+  -- at depth k, around it the instance of row i
+  abbrev pub rowsAt : ℕ → ℕ → ℕ → ℕ → ℕ → ℕ → List ℕ
+  rowsAt n k i m x j = rowsIn n s (modelOf s m) k x j m i
 
-  pub rows-long : (n d k e : ℕ) → length (rowsIn n s d k e) ≡ 3 * instsIn n s d
+  -- the rows below an instance of d, whose row is i and whose first element e
+  abbrev pub rowsUnder : ℕ → ℕ → ℕ → ℕ → ℕ → List ℕ → List ℕ
+  rowsUnder n d k e i ms = rowsOver (rowsAt n (suc k) i) (weightAt n) (instsAt n) (e + length (elements s d)) (suc i) ms
+
+  pub rows-long : (n d k e i m u : ℕ) → length (rowsIn n s d k e i m u) ≡ 5 * instsIn n s d
   unfolding rowsIn instsIn
-  rows-long zero d k e = refl
-  rows-long (suc n) d k e =
-      omega (arith, rows-length (rowsAt n) (weightAt n) (instsAt n) (suc k) (e + length (elements s d)) (submodels s d) (λ m i j. rows-long n (modelOf s m) i j))
+  rows-long zero d k e i m u = refl
+  rows-long (suc n) d k e i m u =
+      omega (
+        arith,
+        rows-length (rowsAt n (suc k) i) (weightAt n) (instsAt n) (e + length (elements s d)) (suc i) (submodels s d)
+            (λ q x j. rows-long n (modelOf s q) (suc k) x j q i),
+      )
 
   insts-some : (n d : ℕ) → 1 ≤ instsIn n s d
   unfolding instsIn
@@ -87,6 +98,16 @@ module _ (s : Recipe) where
   unfolding deepIn
   not-deep zero d e = λ m i. true≢false (not-any (λ k. true) (submodels s d) m e i)
   not-deep (suc n) d e = λ m i. not-deep n (modelOf s m) (not-any (λ k. deepIn n s (modelOf s k)) (submodels s d) m e i)
+
+  -- the elements before the subtree of the submodel p
+  pub ahead-split : (n d p : ℕ) (xs ys : List ℕ) → submodels s d ≡ xs ++ p ∷ ys → ((m : ℕ) → In m xs → Shallow s n (modelOf s m)) → n ≤ 5
+      → ahead s d p ≡ length (elements s d) + total (weightAt n) xs
+  unfolding ahead
+  ahead-split n d p xs ys q h l =
+      let W : ℕ → ℕ = λ k. weight s (modelOf s k) in
+      let R : Rising 0 (xs ++ p ∷ ys) = rw q at (submodels-rise s d) in
+      ap (λ (z : ℕ). length (elements s d) + z)
+      (ap (upTo W p) q ∙ upTo-split W p 0 xs ys R ∙ total-cong W (weightAt n) xs (λ m k. weight-is s n (modelOf s m) (h m k) l))
 
   -- ---- too much, at once
   over-many : (n d i e : ℕ) → 64 < i + instsIn n s d → over n s d i e ≡ true
@@ -148,7 +169,7 @@ module _ (s : Recipe) where
   covered-keeps zero d off off′ h c = tt
   covered-keeps (suc n) d off off′ h c = λ m i. (h m (c m i .0), covered-keeps n (modelOf s m) off off′ h (c m i .1))
 
-  pub record Stage (n d i e : ℕ) (inst₀ off₀ inst off : List ℕ) (j x p : ℕ) : Type 0 where
+  pub record Stage (n d i e m u : ℕ) (inst₀ off₀ inst off : List ℕ) (j x p : ℕ) : Type 0 where
     pub pre : List ℕ
     pub ms : List ℕ
     pub split : submodels s d ≡ pre ++ ms
@@ -158,16 +179,16 @@ module _ (s : Recipe) where
     pub elems : x ≡ e + (length (elements s d) + total (weightAt (n - 1)) pre)
     pub few : j ≤ 64
     pub light : x ≤ 1024
-    pub rows : inst ≡ sets inst₀ (3 * i) (d ∷ (4 - n) ∷ e ∷ rowsOver (rowsAt (n - 1)) (weightAt (n - 1)) (suc (4 - n)) (e + length (elements s d)) pre)
-    pub flat : (m : ℕ) → In m pre → deepIn (n - 1) s (modelOf s m) ≡ false
-    pub keeps : (m : ℕ) → Right s off₀ m → Right s off m
-    pub covers : (m : ℕ) → In m pre → Right s off m × Covered (n - 1) s (modelOf s m) off
+    pub rows : inst ≡ sets inst₀ (5 * i) (d ∷ (4 - n) ∷ e ∷ m ∷ u ∷ rowsUnder (n - 1) d (4 - n) e i pre)
+    pub flat : (q : ℕ) → In q pre → deepIn (n - 1) s (modelOf s q) ≡ false
+    pub keeps : (q : ℕ) → Right s off₀ q → Right s off q
+    pub covers : (q : ℕ) → In q pre → Right s off q × Covered (n - 1) s (modelOf s q) off
 
   -- no submodel is left
-  pub stage-done : (n d i e : ℕ) {inst₀ off₀ inst off : List ℕ} {j x p : ℕ} (g : Stage n d i e inst₀ off₀ inst off j x p) → g .ms ≡ []
-      → (true ≡ not (over n s d i e)) × Grown s n d i e inst₀ off₀ inst off j x
+  pub stage-done : (n d i e m u : ℕ) {inst₀ off₀ inst off : List ℕ} {j x p : ℕ} (g : Stage n d i e m u inst₀ off₀ inst off j x p) → g .ms ≡ []
+      → (true ≡ not (over n s d i e)) × Grown s n d i e m u inst₀ off₀ inst off j x
   unfolding instsIn weightIn rowsIn Covered deepIn
-  stage-done zero d i e g z =
+  stage-done zero d i e m u g z =
       let E : g .pre ≡ [] = g .bottom refl in
       let S : submodels s d ≡ [] = g .split ∙ rw (E, z) in
       let a = rw E at (g .insts) in
@@ -175,7 +196,7 @@ module _ (s : Recipe) where
         sym (ap not (fits-over 0 d i e (record { few = omega (arith, g .few); light = omega (arith, g .light); flat = rw S }))),
         record { insts = a; elems = omega (arith, b); rows = rw E at (g .rows); keeps = g .keeps; covers = tt },
       )
-  stage-done (suc n) d i e g z =
+  stage-done (suc n) d i e m u g z =
       let S : submodels s d ≡ g .pre = g .split ∙ rw (z, append-nil) in
       let N : suc n - 1 ≡ n = omega arith in
       let a = rw N at (g .insts) in
@@ -186,16 +207,16 @@ module _ (s : Recipe) where
         sym (ap not (fits-over (suc n) d i e (record {
           few = rw S (omega (arith, g .few));
           light = rw S (omega (arith, g .light));
-          flat = rw S (any-none (λ m. deepIn n s (modelOf s m)) (g .pre) f);
+          flat = rw S (any-none (λ q. deepIn n s (modelOf s q)) (g .pre) f);
         }))),
-        record { insts = rw S a; elems = rw S b; rows = rw S r; keeps = g .keeps; covers = λ m k. c m (rw S at k) },
+        record { insts = rw S a; elems = rw S b; rows = rw S r; keeps = g .keeps; covers = λ q k. c q (rw S at k) },
       )
 
   -- the instance's own row is written
-  pub stage-start : (n d i e : ℕ) (inst off inst′ : List ℕ) (x : ℕ) → stop s ≡ length (s .bytes) → In d (definitions s)
-      → inst′ ≡ set (set (set inst (3 * i) d) (3 * i + 1) (4 - n)) (3 * i + 2) e → i < 64 → x ≡ e + length (elements s d) → x ≤ 1024
-      → Stage n d i e inst off inst′ off (i + 1) x (next s d)
-  stage-start n d i e inst off inst′ x w h q l r b = record {
+  pub stage-start : (n d i e m u : ℕ) (inst off inst′ : List ℕ) (x : ℕ) → stop s ≡ length (s .bytes) → In d (definitions s)
+      → inst′ ≡ sets inst (5 * i) (d ∷ (4 - n) ∷ e ∷ m ∷ u ∷ []) → i < 64 → x ≡ e + length (elements s d) → x ≤ 1024
+      → Stage n d i e m u inst off inst′ off (i + 1) x (next s d)
+  stage-start n d i e m u inst off inst′ x w h q l r b = record {
     pre = [];
     ms = submodels s d;
     split = refl;
@@ -205,21 +226,15 @@ module _ (s : Recipe) where
     elems = omega arith;
     few = omega arith;
     light = b;
-    rows = q ∙ rw (three-one (3 * i), three-two (3 * i));
+    rows = q;
     flat = λ m k. absurd k;
     keeps = λ m k. k;
     covers = λ m k. absurd k;
   }
-    where
-      three-one : (a : ℕ) → a + 1 ≡ suc a
-      three-one a = omega arith
-
-      three-two : (a : ℕ) → a + 2 ≡ suc (suc a)
-      three-two a = omega arith
 
   -- a record that is no submodel
-  pub stage-skip : {n d i e : ℕ} {inst₀ off₀ inst off : List ℕ} {j x p p′ : ℕ} (g : Stage n d i e inst₀ off₀ inst off j x p) → Rest s d p′ (g .ms)
-      → Stage n d i e inst₀ off₀ inst off j x p′
+  pub stage-skip : {n d i e m u : ℕ} {inst₀ off₀ inst off : List ℕ} {j x p p′ : ℕ} (g : Stage n d i e m u inst₀ off₀ inst off j x p) → Rest s d p′ (g .ms)
+      → Stage n d i e m u inst₀ off₀ inst off j x p′
   stage-skip g r = record {
     pre = g .pre;
     ms = g .ms;
@@ -264,7 +279,7 @@ module _ (s : Recipe) where
   depth-step : (n : ℕ) → (n ≡ 0 → ⊥) → n ≤ 4 → 4 - (n - 1) ≡ suc (4 - n)
   depth-step n z l = omega arith
 
-  module _ (n d i e : ℕ) {inst₀ off₀ inst off : List ℕ} {j x p : ℕ} (g : Stage n d i e inst₀ off₀ inst off j x p) (ms′ : List ℕ) (here : g .ms ≡ p ∷ ms′)
+  module _ (n d i e a u : ℕ) {inst₀ off₀ inst off : List ℕ} {j x p : ℕ} (g : Stage n d i e a u inst₀ off₀ inst off j x p) (ms′ : List ℕ) (here : g .ms ≡ p ∷ ms′)
       (up : (n ≡ 0 → ⊥)) (low : n ≤ 4) where
     subs-are : submodels s d ≡ g .pre ++ p ∷ ms′
     subs-are = g .split ∙ ap (λ (l : List ℕ). g .pre ++ l) here
@@ -274,14 +289,8 @@ module _ (s : Recipe) where
 
     -- the elements before its subtree
     pub ahead-is : x - e ≡ ahead s d p
-    unfolding ahead
     ahead-is =
-        let W : ℕ → ℕ = λ k. weight s (modelOf s k) in
-        let R : Rising 0 (g .pre ++ p ∷ ms′) = rw subs-are at (submodels-rise s d) in
-        let U : upTo W p (submodels s d) ≡ total W (g .pre) = ap (upTo W p) subs-are ∙ upTo-split W p 0 (g .pre) ms′ R in
-        let T : total W (g .pre) ≡ total (weightAt (n - 1)) (g .pre) =
-        total-cong W (weightAt (n - 1)) (g .pre) (λ m k. weight-is s (n - 1) (modelOf s m) (not-deep (n - 1) (modelOf s m) (g .flat m k)) (omega arith)) in
-        omega (arith, g .elems, U, T)
+        omega (arith, g .elems, ahead-split (n - 1) d p (g .pre) ms′ subs-are (λ m k. not-deep (n - 1) (modelOf s m) (g .flat m k)) (omega arith))
 
     pub stage-fail : over (n - 1) s (modelOf s p) j x ≡ true → false ≡ not (over n s d i e)
     stage-fail o =
@@ -298,8 +307,8 @@ module _ (s : Recipe) where
 
     -- its walk goes through
     pub stage-more : {off₁ inst′ off′ : List ℕ} {j′ x′ : ℕ} → holder s p ≡ d → p < length off → off₁ ≡ set off p (x - e) → over (n - 1) s (modelOf s p) j x ≡ false
-        → Grown s (n - 1) (modelOf s p) j x inst off₁ inst′ off′ j′ x′ → Rest s d (next s p) ms′
-        → Stage n d i e inst₀ off₀ inst′ off′ j′ x′ (next s p)
+        → Grown s (n - 1) (modelOf s p) j x p i inst off₁ inst′ off′ j′ x′ → Rest s d (next s p) ms′
+        → Stage n d i e a u inst₀ off₀ inst′ off′ j′ x′ (next s p)
     stage-more {off₁} {inst′} {off′} {j′} {x′} held l q o w r =
         let F = over-not (n - 1) (modelOf s p) j x o in
         let k = n - 1 in
@@ -325,26 +334,29 @@ module _ (s : Recipe) where
               (in-append (g .pre) (p ∷ []) m c);
         }
       where
-        more-rows : sets inst (3 * j) (rowsIn (n - 1) s (modelOf s p) (4 - (n - 1)) x)
-            ≡ sets inst₀ (3 * i) (d ∷ (4 - n) ∷ e ∷ rowsOver (rowsAt (n - 1)) (weightAt (n - 1)) (suc (4 - n)) (e + length (elements s d)) (g .pre ++ p ∷ []))
+        more-rows : sets inst (5 * j) (rowsIn (n - 1) s (modelOf s p) (4 - (n - 1)) x j p i)
+            ≡ sets inst₀ (5 * i) (d ∷ (4 - n) ∷ e ∷ a ∷ u ∷ rowsUnder (n - 1) d (4 - n) e i (g .pre ++ p ∷ []))
         more-rows =
             let k = n - 1 in
             let E = e + length (elements s d) in
-            let P = rowsOver (rowsAt k) (weightAt k) (suc (4 - n)) E (g .pre) in
-            let new = rowsIn k s (modelOf s p) (4 - k) x in
+            let F = rowsAt k (suc (4 - n)) i in
+            let P = rowsUnder k d (4 - n) e i (g .pre) in
+            let new = rowsIn k s (modelOf s p) (4 - k) x j p i in
             let D : 4 - k ≡ suc (4 - n) = depth-step n up low in
             let X : E + total (weightAt k) (g .pre) ≡ x = omega (arith, g .elems) in
-            let T : rowsOver (rowsAt k) (weightAt k) (suc (4 - n)) E (g .pre ++ p ∷ []) ≡ P ++ new =
-            rows-append (rowsAt k) (weightAt k) (suc (4 - n)) E (g .pre) (p ∷ [])
-            ∙ ap (λ (z : List ℕ). P ++ z) (append-nil (rowsIn k s (modelOf s p) (suc (4 - n)) (E + total (weightAt k) (g .pre)))
-            ∙ ap (λ (z : ℕ). rowsIn k s (modelOf s p) z (E + total (weightAt k) (g .pre))) (sym D)
-            ∙ ap (λ (z : ℕ). rowsIn k s (modelOf s p) (4 - k) z) X) in
-            let L : 3 * i + length (d ∷ (4 - n) ∷ e ∷ P) ≡ 3 * j =
-            omega (arith, g .insts, rows-length (rowsAt k) (weightAt k) (instsAt k) (suc (4 - n)) E (g .pre) (λ m a b. rows-long k (modelOf s m) a b)) in
-            ap (λ (z : List ℕ). sets z (3 * j) new) (g .rows)
-            ∙ ap (λ (z : ℕ). sets (sets inst₀ (3 * i) (d ∷ (4 - n) ∷ e ∷ P)) z new) (sym L)
-            ∙ sym (sets-append (d ∷ (4 - n) ∷ e ∷ P) inst₀ (3 * i) new)
-            ∙ ap (λ (z : List ℕ). sets inst₀ (3 * i) (d ∷ (4 - n) ∷ e ∷ z)) (sym T)
+            let J : suc i + total (instsAt k) (g .pre) ≡ j = omega (arith, g .insts) in
+            let T : rowsUnder k d (4 - n) e i (g .pre ++ p ∷ []) ≡ P ++ new =
+            rows-append F (weightAt k) (instsAt k) E (suc i) (g .pre) (p ∷ [])
+            ∙ ap (λ (z : List ℕ). P ++ z) (append-nil (F p (E + total (weightAt k) (g .pre)) (suc i + total (instsAt k) (g .pre)))
+            ∙ ap (λ (z : ℕ). F p z (suc i + total (instsAt k) (g .pre))) X
+            ∙ ap (λ (z : ℕ). F p x z) J
+            ∙ ap (λ (z : ℕ). rowsAt k z i p x j) (sym D)) in
+            let L : 5 * i + length (d ∷ (4 - n) ∷ e ∷ a ∷ u ∷ P) ≡ 5 * j =
+            omega (arith, g .insts, rows-length F (weightAt k) (instsAt k) E (suc i) (g .pre) (λ q y z. rows-long k (modelOf s q) (suc (4 - n)) y z q i)) in
+            ap (λ (z : List ℕ). sets z (5 * j) new) (g .rows)
+            ∙ ap (λ (z : ℕ). sets (sets inst₀ (5 * i) (d ∷ (4 - n) ∷ e ∷ a ∷ u ∷ P)) z new) (sym L)
+            ∙ sym (sets-append (d ∷ (4 - n) ∷ e ∷ a ∷ u ∷ P) inst₀ (5 * i) new)
+            ∙ ap (λ (z : List ℕ). sets inst₀ (5 * i) (d ∷ (4 - n) ∷ e ∷ a ∷ u ∷ z)) (sym T)
 
 -- ---- the records on the way
 pub next-model : (s : Recipe) (d : ℕ) → In d (definitions s) → next s d ≡ d + recordLength (s .width) 1
@@ -364,17 +376,17 @@ unfolding isSubmodel kind
 sub-not s p k = ne-eqb (getD (s .bytes) p 0) 4 k
 
 -- ---- what is returned
-abbrev pub Out : Recipe → ℕ → ℕ → ℕ → ℕ → List ℕ → List ℕ → List ℕ → List ℕ → Bool → ℕ → ℕ → Type 0
-Out s n d i e inst off inst′ off′ ok j x =
-    (ok ≡ not (over n s d i e)) × ((ok ≡ true → Grown s n d i e inst off inst′ off′ j x) × Long inst′ off′)
+abbrev pub Out : Recipe → ℕ → ℕ → ℕ → ℕ → ℕ → ℕ → List ℕ → List ℕ → List ℕ → List ℕ → Bool → ℕ → ℕ → Type 0
+Out s n d i e m u inst off inst′ off′ ok j x =
+    (ok ≡ not (over n s d i e)) × ((ok ≡ true → Grown s n d i e m u inst off inst′ off′ j x) × Long inst′ off′)
 
-pub out-fail : {s : Recipe} {n d i e : ℕ} {inst off inst′ off′ : List ℕ} {j x : ℕ} → false ≡ not (over n s d i e) → Long inst′ off′
-    → Out s n d i e inst off inst′ off′ false j x
-out-fail h l = (h, ((λ z. absurd (false≢true z)), l))
+pub out-fail : {s : Recipe} {n d i e m u : ℕ} {inst off inst′ off′ : List ℕ} {ok : Bool} {j x : ℕ} → ok ≡ false → false ≡ not (over n s d i e) → Long inst′ off′
+    → Out s n d i e m u inst off inst′ off′ ok j x
+out-fail r h l = (r ∙ h, ((λ z. absurd (false≢true (sym r ∙ z))), l))
 
-pub out-done : {s : Recipe} (n d i e : ℕ) {inst off inst′ off′ : List ℕ} {j x p : ℕ} (g : Stage s n d i e inst off inst′ off′ j x p) → g .ms ≡ [] → Long inst′ off′
-    → Out s n d i e inst off inst′ off′ true j x
-out-done {s} n d i e g z l = let r = stage-done s n d i e g z in (r .0, ((λ y. r .1), l))
+pub out-done : {s : Recipe} (n d i e m u : ℕ) {inst off inst′ off′ : List ℕ} {ok : Bool} {j x j′ x′ p : ℕ} (g : Stage s n d i e m u inst off inst′ off′ j x p)
+    → ok ≡ true → j′ ≡ j → x′ ≡ x → g .ms ≡ [] → Long inst′ off′ → Out s n d i e m u inst off inst′ off′ ok j′ x′
+out-done {s} n d i e m u g o a b z l = let r = stage-done s n d i e m u g z in (o ∙ r .0, ((λ y. rw (a, b) (r .1)), l))
 
 -- what a callee's answer says
 pub answer-no : (b x : Bool) → b ≡ not x → not b ≡ true → x ≡ true

@@ -64,15 +64,16 @@ numberIn s d x = firstBelow s d (x .path) + order s (definitionBelow s d (x .pat
 unfoldable pub reach : Recipe → ℕ → ℕ
 reach s p = elim (target s p) [ none ↦ 0 | some t ↦ numberIn s (holder s p) t ]
 
--- the instances: three numbers each, in tree order: definition, depth, number of the first element
-pub record Instances (s : Recipe) (inst : List ℕ) (n : ℕ) : Type 0 where
-  pub count : n ≡ length (instances s)
-  pub few : n ≤ 64
-  pub model : (i : ℕ) → i < n → getD inst (3 * i) 0 ≡ definitionAt s (getD (instances s) i [])
-  pub depth : (i : ℕ) → i < n → getD inst (3 * i + 1) 0 ≡ length (getD (instances s) i [])
-  pub start : (i : ℕ) → i < n → getD inst (3 * i + 2) 0 ≡ firstAt s (getD (instances s) i [])
-
--- and of each instance but main's its submodel record and the number of the instance around it, which comes before it (columns 3 and 4 of five)
+-- of each instance but main's its submodel record and the number of the instance around it, which comes before it (columns 3 and 4 of five)
 abbrev pub Above : Recipe → List ℕ → ℕ → Type 0
 Above s inst n = (i : ℕ) → i < n → 0 < i
     → (getD inst (5 * i + 4) 0 < i) × (getD (instances s) i [] ≡ getD (instances s) (getD inst (5 * i + 4) 0) [] ++ (getD inst (5 * i + 3) 0 ∷ []))
+
+-- the instances: five numbers each, in tree order: definition, depth, number of the first element, submodel record, instance around it
+pub record Instances (s : Recipe) (inst : List ℕ) (n : ℕ) : Type 0 where
+  pub count : n ≡ length (instances s)
+  pub few : n ≤ 64
+  pub model : (i : ℕ) → i < n → getD inst (5 * i) 0 ≡ definitionAt s (getD (instances s) i [])
+  pub depth : (i : ℕ) → i < n → getD inst (5 * i + 1) 0 ≡ length (getD (instances s) i [])
+  pub start : (i : ℕ) → i < n → getD inst (5 * i + 2) 0 ≡ firstAt s (getD (instances s) i [])
+  pub above : Above s inst n

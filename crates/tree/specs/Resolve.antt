@@ -12,6 +12,7 @@ use Rattle.names.specs.Names.{isBlank, text}
 use Rattle.recipe.specs.Definitions.{definitions, elementNamed, holder, main, modelOf, ownerOf, portNamed, submodelNamed}
 use Rattle.recipe.specs.Reading.{fault₃, fault₅}
 use Rattle.recipe.specs.Records.{Recipe, isElement, isMark, isPort, isReplacedBy, isReplacement, places, stop, submodelField, targetField, way}
+use Rattle.heights.specs.Heights.{Heights}
 use Rattle.tree.specs.Faults.{fault₈}
 use Rattle.tree.specs.Numbers.{numberIn, order, reach}
 use Rattle.tree.specs.Tree.{Node, target, targetWithin}
@@ -44,6 +45,11 @@ pub record Names (s : Recipe) (sub nxt ord : List ℕ) : Type 0 where
   pub nexts : (r : ℕ) → In r (places s) → isMark s r || isPort s r ≡ true → getD nxt r 0 ≡ Option·getD (names s r) 0
   pub orders : (e : ℕ) → In e (places s) → isElement s e ≡ true → getD ord e 0 ≡ order s (holder s e) e
 
+-- what bounds the way to a target: each record's definition and, by its place, each definition's height
+pub record Measured (s : Recipe) (hold height : List ℕ) : Type 0 where
+  pub holds : (p : ℕ) → In p (places s) → getD hold p 0 ≡ holder s p
+  pub heights : Heights s height
+
 -- an answer for the target of r by at most n records: its place, and its number from the first element of r's instance
 pub record Resolved (s : Recipe) (off : List ℕ) (n r : ℕ) (ok : Bool) (place num : ℕ) : Type 0 where
   pub found : ok ≡ isSome (targetWithin n s r)
@@ -60,12 +66,12 @@ Numbered s off rel p = (r : ℕ) → In r (places s) → isMark s r || isPort s 
 abbrev pub Aims : Recipe → List ℕ → ℕ → Type 0
 Aims s aims p = (r : ℕ) → In r (places s) → isMark s r || isPort s r ≡ true → r < p → (x : Node) → target s r ≡ some x → getD aims r 0 ≡ x .place
 
--- the lower tables together: with them the place of an owner, by the mark's place, and how many definitions there are
-pub record Lower (s : Recipe) (hold model count sub nxt ord own : List ℕ) (n : ℕ) : Type 0 where
+-- the lower tables together: with them the place of an owner, by the mark's place, and the heights of definitions
+pub record Lower (s : Recipe) (hold model count sub nxt ord own height : List ℕ) : Type 0 where
   pub ground : Ground s hold model count
   pub names : Names s sub nxt ord
   pub some-main : In main (definitions s)
-  pub definitions-are : n ≡ length (definitions s)
+  pub heights : Heights s height
   pub owners : (r : ℕ) → In r (places s) → isReplacement s r || isReplacedBy s r ≡ true → getD own r 0 ≡ ownerOf s r
 
 -- what row 10 requires: rows 1, 2, 5 and 8 are clear, and the places of owners and targets

@@ -29,17 +29,19 @@ deepIn (suc n) s d = any (λ m. deepIn n s (modelOf s m)) (submodels s d)
 unfoldable pub over : ℕ → Recipe → ℕ → ℕ → ℕ → Bool
 over n s d i e = ltb 64 (i + instsIn n s d) || ltb 1024 (e + weightIn n s d) || deepIn n s d
 
--- the rows of the subtrees of the submodels, at depth k, the first element's number e: f gives one's rows, w its elements
-abbrev pub rowsOver : (ℕ → ℕ → ℕ → List ℕ) → (ℕ → ℕ) → ℕ → ℕ → List ℕ → List ℕ
-rowsOver f w k e [] = []
-rowsOver f w k e (m ∷ ms) = f m k e ++ rowsOver f w k (e + w m) ms
+-- the rows of the subtrees of the submodels, the first element's number e, the first row's number i: f gives one's rows, w its elements, c its instances
+abbrev pub rowsOver : (ℕ → ℕ → ℕ → List ℕ) → (ℕ → ℕ) → (ℕ → ℕ) → ℕ → ℕ → List ℕ → List ℕ
+rowsOver f w c e i [] = []
+rowsOver f w c e i (m ∷ ms) = f m e i ++ rowsOver f w c (e + w m) (i + c m) ms
 
--- an instance's row is its definition, its depth, and the number of its first element; its subtree's rows follow
-unfoldable pub rowsIn : ℕ → Recipe → ℕ → ℕ → ℕ → List ℕ
-rowsIn zero s d k e = d ∷ k ∷ e ∷ []
-rowsIn (suc n) s d k e =
-    d ∷ k ∷ e
-    ∷ rowsOver (λ m. rowsIn n s (modelOf s m)) (λ m. weightIn n s (modelOf s m)) (suc k) (e + length (elements s d)) (submodels s d)
+-- an instance's row, its number i, is its definition, its depth, the number of its first element, the place m of its submodel record and the
+-- number u of the instance around it; its subtree's rows follow
+unfoldable pub rowsIn : ℕ → Recipe → ℕ → ℕ → ℕ → ℕ → ℕ → ℕ → List ℕ
+rowsIn zero s d k e i m u = d ∷ k ∷ e ∷ m ∷ u ∷ []
+rowsIn (suc n) s d k e i m u =
+    d ∷ k ∷ e ∷ m ∷ u
+    ∷ rowsOver (λ q x j. rowsIn n s (modelOf s q) (suc k) x j q i) (λ q. weightIn n s (modelOf s q)) (λ q. instsIn n s (modelOf s q))
+    (e + length (elements s d)) (suc i) (submodels s d)
 
 -- the table has the number of elements before the submodel's subtree
 abbrev pub Right : Recipe → List ℕ → ℕ → Type 0
@@ -65,16 +67,16 @@ pub record Ground (s : Recipe) (hold model count : List ℕ) : Type 0 where
   pub counts : (d : ℕ) → In d (definitions s) → getD count d 0 ≡ length (elements s d)
 
 -- what a walk that goes through has written
-pub record Grown (s : Recipe) (n d i e : ℕ) (inst off inst′ off′ : List ℕ) (j x : ℕ) : Type 0 where
+pub record Grown (s : Recipe) (n d i e m u : ℕ) (inst off inst′ off′ : List ℕ) (j x : ℕ) : Type 0 where
   pub insts : j ≡ i + instsIn n s d
   pub elems : x ≡ e + weightIn n s d
-  pub rows : inst′ ≡ sets inst (3 * i) (rowsIn n s d (4 - n) e)
-  pub keeps : (m : ℕ) → Right s off m → Right s off′ m
+  pub rows : inst′ ≡ sets inst (5 * i) (rowsIn n s d (4 - n) e i m u)
+  pub keeps : (q : ℕ) → Right s off q → Right s off′ q
   pub covers : Covered n s d off′
 
 -- the tables have their lengths
 pub record Long (inst off : List ℕ) : Type 0 where
-  pub insts : length inst ≡ 192
+  pub insts : length inst ≡ 320
   pub offs : length off ≡ 16384
 
 -- the table has the elements before each submodel's subtree, of all submodels of the tree

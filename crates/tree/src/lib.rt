@@ -1,9 +1,11 @@
 // The tree of a recipe: its instances, the targets of ports and marks, and the refusals 7, 8 and 10.
-// For the floors above: wide, plant, first_untargeted, first_misclassed. They take the name width w, and tables by place that the floor below fills.
+// For the floors above: wide, plant, count_elements, first_untargeted, first_misclassed. They take the name width w, and tables by place that the floor below fills.
 ghost use mathlib.Core.Path.{_≡_};
 ghost use mathlib.Core.Bool.{true, false, not, _||_};
-ghost use Prim.Native.Nat.{_≤_, _<_};
+ghost use mathlib.Core.List.{[], _∷_};
+ghost use Prim.Native.Nat.{_*_, _≤_, _<_};
 ghost use lib.ListN.{length};
+ghost use lib.Seq.{sets};
 ghost use Rattle.names.specs.Lists.{In};
 ghost use Rattle.names.specs.Names.{isBlank};
 ghost use Rattle.names.specs.Scans.{foundOf};
@@ -11,8 +13,10 @@ ghost use Rattle.recipe.specs.Records.{Recipe, places, isMark, isPort, submodel
 ghost use Rattle.recipe.specs.Definitions.{definitions, main};
 ghost use Rattle.tree.specs.Faults.{isTooLarge, fault₈, fault₁₀};
 ghost use Rattle.tree.specs.Numbers.{Instances};
+ghost use Rattle.tree.specs.Tree.{treeElements};
 ghost use Rattle.tree.specs.Walk.{over, Ground, Grown, Long, Offsets};
-ghost use Rattle.tree.specs.Resolve.{Names, Resolved, Numbered, Aims, Linked};
+ghost use Rattle.tree.specs.Counts.{Countable, Counted};
+ghost use Rattle.tree.specs.Resolve.{Names, Measured, Resolved, Numbered, Aims, Linked};
 use names::Found;
 
 // A number of the tables, as a place or a count.
@@ -29,7 +33,38 @@ pub struct Walked {
     pub elems: usize,
 }
 
-// The tree below an instance of d, its rows from i on, its elements numbered from e on; `left` deep at most.
+// The answer of a walk.
+fn walk_answer(ok: bool, insts: usize, elems: usize) -> Walked
+    ensures { λ r. ⌜ (r .ok ≡ ok) × ((r .insts ≡ insts) × (r .elems ≡ elems)) ⌝ }
+{
+    Walked {
+        ok: ok,
+        insts: insts,
+        elems: elems,
+    }
+}
+
+// Writes the row of instance i: its definition, its depth, the number of its first element, its submodel record's place, and the instance around it.
+fn put_row(
+    inst: &mut [u16; 320],
+    i: usize,
+    d: usize,
+    depth: usize,
+    e: usize,
+    sub: usize,
+    around: usize,
+)
+    requires { ⌜ (i < 64) × ((d < 65536) × ((depth < 65536) × ((e < 65536) × ((sub < 65536) × ((around < 65536) × (length (now inst) ≡ 320)))))) ⌝ }
+    ensures { λ r. ⌜ now (inst .exit) ≡ sets (now (inst .entry)) (5 * i) (d ∷ depth ∷ e ∷ sub ∷ around ∷ []) ⌝ }
+{
+    inst[5 * i] = d as u16;
+    inst[5 * i + 1] = depth as u16;
+    inst[5 * i + 2] = e as u16;
+    inst[5 * i + 3] = sub as u16;
+    inst[5 * i + 4] = around as u16;
+}
+
+// The tree below an instance of d, of the submodel record `sub` of instance `around`: its rows from i on, its elements numbered from e on; `left` deep at most.
 fn walk(
     s: &[u8],
     w: usize,
@@ -40,60 +75,40 @@ fn walk(
     left: usize,
     i: usize,
     e: usize,
-    inst: &mut [u16; 192],
+    sub: usize,
+    around: usize,
+    inst: &mut [u16; 320],
     off: &mut [u16; 16384],
 ) -> Walked
-    requires { ⌜ Ground (record { width = w; bytes = now s }) (now hold) (now model) (now count) × (In d (definitions (record { width = w; bytes = now s })) × ((left ≤ 4) × ((e ≤ 1024) × Long (now inst) (now off)))) ⌝ }
-    ensures { λ r. ⌜ (r .ok ≡ not (over left (record { width = w; bytes = now (s .entry) }) d i e)) × ((r .ok ≡ true → Grown (record { width = w; bytes = now (s .entry) }) left d i e (now (inst .entry)) (now (off .entry)) (now (inst .exit)) (now (off .exit)) (r .insts) (r .elems)) × Long (now (inst .exit)) (now (off .exit))) ⌝ }
+    requires { ⌜ Ground (record { width = w; bytes = now s }) (now hold) (now model) (now count) × (In d (definitions (record { width = w; bytes = now s })) × ((left ≤ 4) × ((e ≤ 1024) × ((sub < 65536) × ((around < 65536) × Long (now inst) (now off)))))) ⌝ }
+    ensures { λ r. ⌜ (r .ok ≡ not (over left (record { width = w; bytes = now (s .entry) }) d i e)) × ((r .ok ≡ true → Grown (record { width = w; bytes = now (s .entry) }) left d i e sub around (now (inst .entry)) (now (off .entry)) (now (inst .exit)) (now (off .exit)) (r .insts) (r .elems)) × Long (now (inst .exit)) (now (off .exit))) ⌝ }
 {
     let c = wide(count[d]);
     if i >= 64 {
-        return Walked {
-            ok: false,
-            insts: 0,
-            elems: 0,
-        };
+        return walk_answer(false, 0, 0);
     }
     if c > 1024 - e {
-        return Walked {
-            ok: false,
-            insts: 0,
-            elems: 0,
-        };
+        return walk_answer(false, 0, 0);
     }
-    inst[3 * i] = d as u16;
-    inst[3 * i + 1] = (4 - left) as u16;
-    inst[3 * i + 2] = e as u16;
+    put_row(inst, i, d, 4 - left, e, sub, around);
     let mut j = i + 1;
     let mut x = e + c;
     let mut p = d + recipe::record_length(1, w);
     while p < s.len() {
         if wide(hold[p]) != d {
-            return Walked {
-                ok: true,
-                insts: j,
-                elems: x,
-            };
+            return walk_answer(true, j, x);
         }
         let k = s[p];
         if k == 4 {
             if left == 0 {
-                return Walked {
-                    ok: false,
-                    insts: 0,
-                    elems: 0,
-                };
+                return walk_answer(false, 0, 0);
             }
             off[p] = (x - e) as u16;
             let m = wide(model[p]);
-            let t = walk(s, w, hold, model, count, m, left - 1, j, x, inst, off);
+            let t = walk(s, w, hold, model, count, m, left - 1, j, x, p, i, inst, off);
             let ok = t.ok;
             if !ok {
-                return Walked {
-                    ok: false,
-                    insts: 0,
-                    elems: 0,
-                };
+                return walk_answer(false, 0, 0);
             }
             j = t.insts;
             x = t.elems;
@@ -102,17 +117,14 @@ fn walk(
             p += recipe::record_length(k, w);
         }
     }
-    Walked {
-        ok: true,
-        insts: j,
-        elems: x,
-    }
+    walk_answer(true, j, x)
 }
 
-// What planting answers: whether the tree is too large, and how many instances it has.
+// What planting answers: whether the tree is too large, and how many instances and elements it has.
 pub struct Planted {
     pub large: bool,
     pub insts: usize,
+    pub elems: usize,
 }
 
 // Row 7, and the tables of instances and of submodels' offsets.
@@ -122,18 +134,49 @@ pub fn plant(
     hold: &[u16; 16384],
     model: &[u16; 16384],
     count: &[u16; 16384],
-    inst: &mut [u16; 192],
+    inst: &mut [u16; 320],
     off: &mut [u16; 16384],
 ) -> Planted
     requires { ⌜ Ground (record { width = w; bytes = now s }) (now hold) (now model) (now count) × (In main (definitions (record { width = w; bytes = now s })) × Long (now inst) (now off)) ⌝ }
-    ensures { λ r. ⌜ (r .large ≡ isTooLarge (record { width = w; bytes = now (s .entry) })) × ((r .large ≡ false → Instances (record { width = w; bytes = now (s .entry) }) (now (inst .exit)) (r .insts) × Offsets (record { width = w; bytes = now (s .entry) }) (now (off .exit))) × Long (now (inst .exit)) (now (off .exit))) ⌝ }
+    ensures { λ r. ⌜ (r .large ≡ isTooLarge (record { width = w; bytes = now (s .entry) })) × ((r .large ≡ false → Instances (record { width = w; bytes = now (s .entry) }) (now (inst .exit)) (r .insts) × (Offsets (record { width = w; bytes = now (s .entry) }) (now (off .exit)) × (r .elems ≡ length (treeElements (record { width = w; bytes = now (s .entry) }))))) × Long (now (inst .exit)) (now (off .exit))) ⌝ }
 {
-    let t = walk(s, w, hold, model, count, 0, 4, 0, 0, inst, off);
+    let t = walk(s, w, hold, model, count, 0, 4, 0, 0, 0, 0, inst, off);
     let ok = t.ok;
     let n = t.insts;
+    let x = t.elems;
     Planted {
         large: !ok,
         insts: n,
+        elems: x,
+    }
+}
+
+// How many elements each definition has, and each element's number in its definition.
+pub fn count_elements(
+    s: &[u8],
+    w: usize,
+    hold: &[u16; 16384],
+    count: &mut [u16; 16384],
+    ord: &mut [u16; 16384],
+)
+    requires { ⌜ Countable (record { width = w; bytes = now s }) (now hold) (now count) (now ord) ⌝ }
+    ensures { λ r. ⌜ Counted (record { width = w; bytes = now (s .entry) }) (now (count .exit)) (now (ord .exit)) ⌝ }
+{
+    let mut p = 0;
+    while p < s.len() {
+        let k = s[p];
+        if k == 1 {
+            count[p] = 0;
+            p += recipe::record_length(k, w);
+        } else if k == 2 {
+            let d = wide(hold[p]);
+            let c = count[d];
+            ord[p] = c;
+            count[d] = c + 1;
+            p += recipe::record_length(k, w);
+        } else {
+            p += recipe::record_length(k, w);
+        }
     }
 }
 
@@ -155,7 +198,7 @@ fn resolve_reference(
     r: usize,
     n: usize,
 ) -> Target
-    requires { ⌜ Names (record { width = w; bytes = now s }) (now sub) (now nxt) (now ord) × (In r (places (record { width = w; bytes = now s })) × ((isMark (record { width = w; bytes = now s }) r || isPort (record { width = w; bytes = now s }) r ≡ true) × ((n ≤ 16384) × ((isBlank (submodelField (record { width = w; bytes = now s }) r) ≡ false) × (n ≡ 0 → ⊥))))) ⌝ }
+    requires { ⌜ Names (record { width = w; bytes = now s }) (now sub) (now nxt) (now ord) × (In r (places (record { width = w; bytes = now s })) × ((isMark (record { width = w; bytes = now s }) r || isPort (record { width = w; bytes = now s }) r ≡ true) × ((n ≤ 65535) × ((isBlank (submodelField (record { width = w; bytes = now s }) r) ≡ false) × (n ≡ 0 → ⊥))))) ⌝ }
     ensures { λ a. ⌜ Resolved (record { width = w; bytes = now (s .entry) }) (now (off .entry)) n r (a .ok) (a .place) (a .num) ⌝ }
 {
     let x = wide(nxt[r]);
@@ -198,7 +241,7 @@ fn resolve_port(
     q: usize,
     n: usize,
 ) -> Target
-    requires { ⌜ Names (record { width = w; bytes = now s }) (now sub) (now nxt) (now ord) × (In q (places (record { width = w; bytes = now s })) × ((isMark (record { width = w; bytes = now s }) q || isPort (record { width = w; bytes = now s }) q ≡ true) × (n ≤ 16384))) ⌝ }
+    requires { ⌜ Names (record { width = w; bytes = now s }) (now sub) (now nxt) (now ord) × (In q (places (record { width = w; bytes = now s })) × ((isMark (record { width = w; bytes = now s }) q || isPort (record { width = w; bytes = now s }) q ≡ true) × (n ≤ 65535))) ⌝ }
     ensures { λ a. ⌜ Resolved (record { width = w; bytes = now (s .entry) }) (now (off .entry)) n q (a .ok) (a .place) (a .num) ⌝ }
 {
     if n == 0 {
@@ -227,7 +270,7 @@ fn resolve_port(
     }
 }
 
-// Row 8: the first mark or port without a target; the numbers and the places of the others' targets.
+// Row 8: the first mark or port without a target, by no more records than its definition is high; the numbers and the places of the others' targets.
 pub fn first_untargeted(
     s: &[u8],
     w: usize,
@@ -235,25 +278,26 @@ pub fn first_untargeted(
     nxt: &[u16; 16384],
     ord: &[u16; 16384],
     off: &[u16; 16384],
-    n: usize,
+    hold: &[u16; 16384],
+    height: &[u16; 16384],
     rel: &mut [u16; 16384],
     aims: &mut [u16; 16384],
 ) -> Found
-    requires { ⌜ Names (record { width = w; bytes = now s }) (now sub) (now nxt) (now ord) × ((n ≡ length (definitions (record { width = w; bytes = now s }))) × ((n ≤ 16384) × ((length (now rel) ≡ 16384) × (length (now aims) ≡ 16384)))) ⌝ }
+    requires { ⌜ Names (record { width = w; bytes = now s }) (now sub) (now nxt) (now ord) × (Measured (record { width = w; bytes = now s }) (now hold) (now height) × ((length (now rel) ≡ 16384) × (length (now aims) ≡ 16384))) ⌝ }
     ensures { λ r. ⌜ (r ≡ foundOf (fault₈ (record { width = w; bytes = now (s .entry) }))) × (r ≡ Found.Nothing → Numbered (record { width = w; bytes = now (s .entry) }) (now (off .entry)) (now (rel .exit)) (length (now (s .entry))) × Aims (record { width = w; bytes = now (s .entry) }) (now (aims .exit)) (length (now (s .entry)))) ⌝ }
 {
     let mut p = 0;
     while p < s.len() {
         let k = s[p];
         if (k == 3) | (k >= 5) {
+            let n = wide(height[wide(hold[p])]);
             let t = resolve_port(s, w, sub, nxt, ord, off, p, n);
             let ok = t.ok;
             let num = t.num;
-            let place = t.place;
             if !ok {
                 return Found::At(p);
             }
-            aims[p] = place as u16;
+            aims[p] = t.place as u16;
             if num < 65536 {
                 rel[p] = num as u16;
                 p += recipe::record_length(k, w);

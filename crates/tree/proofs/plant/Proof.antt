@@ -8,7 +8,7 @@ use Rattle.tree.proofs.plant.Tie as tie
 
 walk-requires : tie.Need-walk-requires
 unfolding main
-walk-requires c κs = let st = c .before .before .before in (st .pre .0, (st .pre .1 .0, (omega arith, (omega arith, st .pre .1 .1))))
+walk-requires c κs = let st = c .before .before .before in (st .pre .0, (st .pre .1 .0, (omega arith, (omega arith, (omega arith, (omega arith, st .pre .1 .1))))))
 
 returns : tie.Need-returns
 unfolding main
