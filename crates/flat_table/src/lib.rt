@@ -1,5 +1,6 @@
 // The flat table and its check: 01's refusals 14 to 17. It stands beneath the composer and knows nothing of recipes.
-// Public calls, which require nothing: bandrolt_check_table, exported to C; is_class, parent_may_be_blank and parent_allowed, for the floors above.
+// Public calls, which require nothing: bandrolt_check_table, exported to C; is_class, parent_may_be_blank, parent_allowed, reference_may_be_blank
+// and reference_allowed, for the floors above.
 ghost use mathlib.Core.Path.{_≡_};
 ghost use mathlib.Core.Option.{none, some};
 ghost use Prim.Native.Nat.{_+_, _*_, _≤_, _<_};
@@ -87,13 +88,13 @@ pub fn parent_allowed(c: u8, k: u8) -> bool
     ((c == 5) | (c == 7)) & (k == 4)
 }
 
-fn reference_may_be_blank(c: u8) -> bool
+pub fn reference_may_be_blank(c: u8) -> bool
     ensures { λ r. ⌜ r ≡ referenceAllowed c none ⌝ }
 {
     (c == 1) | (c == 3) | (c == 4) | (c == 7)
 }
 
-fn reference_allowed(c: u8, k: u8) -> bool
+pub fn reference_allowed(c: u8, k: u8) -> bool
     ensures { λ r. ⌜ r ≡ referenceAllowed c (some k) ⌝ }
 {
     ((c == 2) | (c == 4) | (c == 6)) & (k == 1)

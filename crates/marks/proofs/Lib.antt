@@ -9,6 +9,7 @@ pub mod Stamps
 pub mod Relations
 pub mod Pass
 pub mod Records
+pub mod EachInstance
 pub mod Turn
 pub mod Steps
 pub mod StepTable
@@ -16,3 +17,5 @@ pub mod Gone
 pub mod Ends
 pub mod Handed
 pub mod Lost
+pub mod Listing
+pub mod References

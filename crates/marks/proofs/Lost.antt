@@ -52,7 +52,7 @@ module _ (s : Recipe) (hold rel own ord inst : List ℕ) (n : ℕ) (R : Ready s 
   unfolding aimsAtGone
   lost-start = by-record s (isReplacedBy s) p here not-model sort (λ r. holds (isGone s) (aim s r))
 
-  pub lost-other : (i : ℕ) → i < n → (getD inst (3 * i) 0 ≡ getD hold p 0 → ⊥) → any (lost s p) (drop i (instances s)) ≡ any (lost s p) (drop (i + 1) (instances s))
+  pub lost-other : (i : ℕ) → i < n → (getD inst (5 * i) 0 ≡ getD hold p 0 → ⊥) → any (lost s p) (drop i (instances s)) ≡ any (lost s p) (drop (i + 1) (instances s))
   lost-other i h e =
       turn s hold rel own ord inst n R p here (by-pointer s p sort) (lost s p) i h
       ∙ rw (ne-eqb (definitionAt s (getD (instances s) i [])) (holder s p) (λ q. e (R .tree .model i h ∙ q ∙ sym (R .links .holds p here))))
@@ -60,15 +60,15 @@ module _ (s : Recipe) (hold rel own ord inst : List ℕ) (n : ℕ) (R : Ready s 
   pub lost-end : (i : ℕ) → n ≤ i → any (lost s p) (drop i (instances s)) ≡ false
   lost-end i h = turn-end s hold rel own ord inst n R p here (by-pointer s p sort) (lost s p) i h
 
-  module _ (aims : List ℕ) (A : Aims s aims (length (s .bytes))) (i e f : ℕ) (l : i < n) (g : getD inst (3 * i) 0 ≡ getD hold p 0) (re : e ≡ getD rel p 0)
-      (rf : f ≡ getD inst (3 * i + 2) 0) where
+  module _ (aims : List ℕ) (A : Aims s aims (length (s .bytes))) (i e f : ℕ) (l : i < n) (g : getD inst (5 * i) 0 ≡ getD hold p 0) (re : e ≡ getD rel p 0)
+      (rf : f ≡ getD inst (5 * i + 2) 0) where
     abbrev this : Node
     this = node (getD (instances s) i []) p
 
     this-in : In this (treePointers s)
     this-in = it-in s hold rel own ord inst n R p here (by-pointer s p sort) i (l, g)
 
-    reads : Read s hold rel own ord inst n R p here (by-pointer s p sort) i (getD (s .bytes) p 0) e (getD ord (getD own p 0) 0) f (getD inst (3 * i + 1) 0)
+    reads : Read s hold rel own ord inst n R p here (by-pointer s p sort) i (getD (s .bytes) p 0) e (getD ord (getD own p 0) 0) f (getD inst (5 * i + 1) 0)
     reads = record { holds = (l, g); kind-is = refl; rel-is = re; own-is = λ z. refl; first-is = rf; depth-is = refl }
 
     the-aim : (t : Node) × (aim s this ≡ some (from (this .path) t))

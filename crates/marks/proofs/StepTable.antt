@@ -182,7 +182,7 @@ module _ (s : Recipe) (hold rel own ord inst : List ℕ) (n : ℕ) (R : Ready s 
       (λ q i d. ⊎-elim (λ (y : q .place < p). y) (λ (y : (q .place ≡ p) × ((m : ℕ) × ((m < 0) × (q .path ≡ getD (instances s) m [])))). absurd (let z = y .1 .1 .0 in omega arith)) d)
       (λ q i d. inl d) w
 
-  pub done-other : (go : List ℕ) (i : ℕ) → i < n → (getD inst (3 * i) 0 ≡ getD hold p 0 → ⊥) → Went s (Done s p i) go → Went s (Done s p (i + 1)) go
+  pub done-other : (go : List ℕ) (i : ℕ) → i < n → (getD inst (5 * i) 0 ≡ getD hold p 0 → ⊥) → Went s (Done s p i) go → Went s (Done s p (i + 1)) go
   done-other go i l e w =
       went-same s C (R .declared) (R .small) (R .aims) (Done s p i) (Done s p (i + 1)) go
       (λ q j d. ⊎-elim (λ (y : q .place < p). inl y)

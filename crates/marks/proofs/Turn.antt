@@ -1,19 +1,18 @@
 -- One turn of the loops of row 9: a record in one instance.
 -- Assumes nothing.
-use Prim.Native.Nat.{_*_, _+_, _-_, _<_, _≤_, suc, ℕ}
+use Prim.Native.Nat.{_*_, _+_, _-_, _<_, _≤_, ℕ}
 use borrow.Author.Tests.{eq-eqb, eqb-false, eqb-true, ne-eqb}
 use lib.Dec.{eqb, ltb}
-use lib.ListN.{drop, drop-of-length-le, getD, length, length-set, set}
-use lib.Seq.{drop-cons, getD-set-other, getD-set-same}
+use lib.ListN.{drop, getD, length, length-set, set}
+use lib.Seq.{getD-set-other, getD-set-same}
 use mathlib.Core.Bool.{Bool, _&&_, _||_, false, or-assoc, or-false, or-true, true}
 use mathlib.Core.List.{List, [], _++_, _∷_}
 use mathlib.Core.Logic.{_⊎_, inr, ⊎-elim}
 use mathlib.Core.Option.{none, some}
 use mathlib.Core.Path.{_∙_, _≡_, ap, sym}
-use native.Mathlib.Numerals.{add-one}
 use native.Mathlib.Omega.{arith}
 use Rattle.names.specs.Lists.{In, among, any}
-use Rattle.names.proofs.Lists.{any-cons, getD-in}
+use Rattle.names.proofs.Lists.{getD-in}
 use Rattle.names.proofs.Tests.{by-cases, or-left, or-right}
 use Rattle.recipe.specs.Definitions.{holder, main, ownerOf}
 use Rattle.recipe.specs.Records.{Recipe, isMark, isPort, isReplacedBy, isReplacement, kind, next, places}
@@ -29,6 +28,7 @@ use Rattle.tree.proofs.Numbering.{number-few}
 use Rattle.marks.specs.Cells.{Cells, Ready, aimNumber, asks, goneCell, isSet, markCell, meets, ownerCell, portCell, stamped, stamps}
 use Rattle.marks.specs.Faults.{conflictsWithEarlier}
 use Rattle.marks.specs.Marks.{conflict, from, owner, treePointers}
+use Rattle.marks.proofs.EachInstance.{no-instance, one-instance}
 use Rattle.marks.proofs.Marks.{aim-in, aim-some, aim-target, owner-in, pointer-holder}
 use Rattle.marks.proofs.Pass.{cells-more, pointer-by, pointer-in, query}
 use Rattle.marks.proofs.Records.{stamped-by, stamped-other, stamped-port}
@@ -105,7 +105,7 @@ module _ (s : Recipe) (hold rel own ord inst : List ℕ) (n : ℕ) (R : Ready s 
 
   -- instance i is one of the record's definition
   abbrev pub Holds : ℕ → Type 0
-  Holds i = (i < n) × (getD inst (3 * i) 0 ≡ getD hold p 0)
+  Holds i = (i < n) × (getD inst (5 * i) 0 ≡ getD hold p 0)
 
   pub instance-in : (i : ℕ) → i < n → In (path i) (instances s)
   instance-in i h = let c = R .tree .count in getD-in (instances s) i [] (omega arith)
@@ -122,8 +122,8 @@ module _ (s : Recipe) (hold rel own ord inst : List ℕ) (n : ℕ) (R : Ready s 
     pub kind-is : k ≡ getD (s .bytes) p 0
     pub rel-is : e ≡ getD rel p 0
     pub own-is : getD own p 0 < 16384 → o ≡ getD ord (getD own p 0) 0
-    pub first-is : f ≡ getD inst (3 * i + 2) 0
-    pub depth-is : d ≡ getD inst (3 * i + 1) 0
+    pub first-is : f ≡ getD inst (5 * i + 2) 0
+    pub depth-is : d ≡ getD inst (5 * i + 1) 0
 
   module _ (i k e o f d : ℕ) (w : Read i k e o f d) where
     pub ptr : In (it i) (treePointers s)
@@ -230,23 +230,17 @@ module _ (s : Recipe) (hold rel own ord inst : List ℕ) (n : ℕ) (R : Ready s 
   -- ---- the instances from i on
   module _ (F : List ℕ → Bool) where
     pub turn : (i : ℕ) → i < n → any F (drop i (instances s)) ≡ F (path i) || any F (drop (i + 1) (instances s))
-    turn i h =
-        let c = R .tree .count in
-        let l : i < length (instances s) = omega arith in
-        rw (add-one, drop-cons (instances s) i [] l) (any-cons F (path i) (drop (suc i) (instances s)))
+    turn i h = one-instance s inst n (R .tree) F i h
 
     pub turn-end : (i : ℕ) → n ≤ i → any F (drop i (instances s)) ≡ false
-    turn-end i h =
-        let c = R .tree .count in
-        let l : length (instances s) ≤ i = omega arith in
-        rw (drop-of-length-le (instances s) l)
+    turn-end i h = no-instance s inst n (R .tree) F i h
 
   -- checking
   pub check-start : conflictsWithEarlier s p ≡ any (clash s p) (instances s)
   unfolding conflictsWithEarlier
   check-start = pointer-by s p here sort (λ r. any (λ q. ltb (q .place) p && conflict s q r) (treePointers s))
 
-  pub check-other : (i : ℕ) → i < n → (getD inst (3 * i) 0 ≡ getD hold p 0 → ⊥) → any (clash s p) (drop i (instances s)) ≡ any (clash s p) (drop (i + 1) (instances s))
+  pub check-other : (i : ℕ) → i < n → (getD inst (5 * i) 0 ≡ getD hold p 0 → ⊥) → any (clash s p) (drop i (instances s)) ≡ any (clash s p) (drop (i + 1) (instances s))
   check-other i h e =
       turn (clash s p) i h
       ∙ rw (ne-eqb (definitionAt s (path i)) (holder s p) (λ q. e (R .tree .model i h ∙ q ∙ sym (R .links .holds p here))))
@@ -258,7 +252,7 @@ module _ (s : Recipe) (hold rel own ord inst : List ℕ) (n : ℕ) (R : Ready s 
       ∙ rw (eq-eqb (definitionAt s (path i)) (holder s p) (definition-is i (w .holds)), q, meets-law i k e o f d w t h)
 
   -- setting
-  pub set-other : (t₀ t : List ℕ) (i : ℕ) → i < n → (getD inst (3 * i) 0 ≡ getD hold p 0 → ⊥) → Setting s p t₀ t i → Setting s p t₀ t (i + 1)
+  pub set-other : (t₀ t : List ℕ) (i : ℕ) → i < n → (getD inst (5 * i) 0 ≡ getD hold p 0 → ⊥) → Setting s p t₀ t i → Setting s p t₀ t (i + 1)
   set-other t₀ t i h e S c =
       ap (λ (b : Bool). isSet t c || b)
       (sym (turn (mine s p c) i h

@@ -5,3 +5,5 @@ pub mod Cells
 pub mod Steps
 pub mod Gone
 pub mod Elements
+pub mod Listing
+pub mod References

@@ -1,21 +1,26 @@
-// Conflicts, elements that are gone, and the chain, and the refusals 9 and 11; 12 is to come.
-// For the floor above: first_conflict, fill_steps, is_gone, chain_end, first_lost. They take the name width w, and the tables of the floors below.
+// Conflicts, elements that are gone, and the chain, and the refusals 9, 11 and 12.
+// For the floor above: first_conflict, fill_steps, is_gone, chain_end, first_lost, list_elements, first_misreferred. They take the name width w,
+// and the tables of the floors below.
 ghost use mathlib.Core.Path.{_≡_};
 ghost use mathlib.Core.Bool.{true, _||_};
 ghost use mathlib.Core.Option.{none};
 ghost use Prim.Native.Nat.{_+_, _≤_, _<_};
 ghost use lib.ListN.{length, getD, replicate};
 ghost use Rattle.names.specs.Lists.{In};
+ghost use Rattle.names.specs.Names.{isBlank};
 ghost use Rattle.names.specs.Scans.{foundOf};
-ghost use Rattle.recipe.specs.Records.{Recipe, places, isMark, isPort, isReplacedBy, next};
+ghost use Rattle.recipe.specs.Records.{Recipe, places, isElement, isMark, isPort, isReplacedBy, next, referenceField};
 ghost use Rattle.recipe.specs.Reading.{fault₅};
 ghost use Rattle.tree.specs.Tree.{Node, treeElements};
 ghost use Rattle.tree.specs.Faults.{fault₇};
 ghost use Rattle.tree.specs.Numbers.{number};
 ghost use Rattle.tree.specs.Resolve.{Aims};
-ghost use Rattle.marks.specs.Faults.{conflictsWithEarlier, fault₉, aimsAtGone, fault₁₁};
+ghost use Rattle.marks.specs.Faults.{conflictsWithEarlier, fault₉, aimsAtGone, fault₁₁, fault₁₂};
 ghost use Rattle.marks.specs.Cells.{anySet, isSet, ownerCell, goneCell, Cells, Ready, meets, stamped};
 ghost use Rattle.marks.specs.Gone.{Element, Marked, GoneAt};
+ghost use Rattle.marks.specs.Elements.{Elements};
+ghost use Rattle.marks.specs.Listing.{Counted, Listed};
+ghost use Rattle.marks.specs.References.{PlacesAre, Judged, References, misrefers, UnfitAt, FaultAt};
 ghost use Rattle.marks.specs.Steps.{isStep, Went, Clear, stepped, stepOf, StepsAre, Numbers, EndsAt};
 use names::Found;
 
@@ -92,7 +97,7 @@ fn conflicts_at(
     rel: &[u16; 16384],
     own: &[u16; 16384],
     ord: &[u16; 16384],
-    inst: &[u16; 192],
+    inst: &[u16; 320],
     n: usize,
     t: &[u8; 12288],
 ) -> bool
@@ -105,9 +110,9 @@ fn conflicts_at(
     let o = entry(ord, tree::wide(own[p]));
     let mut i = 0;
     while i < n {
-        if inst[3 * i] == h {
-            let f = tree::wide(inst[3 * i + 2]);
-            let d = tree::wide(inst[3 * i + 1]);
+        if inst[5 * i] == h {
+            let f = tree::wide(inst[5 * i + 2]);
+            let d = tree::wide(inst[5 * i + 1]);
             if meets_any(t, k, f + e, f + o, d) {
                 return true;
             }
@@ -128,7 +133,7 @@ fn enter_at(
     rel: &[u16; 16384],
     own: &[u16; 16384],
     ord: &[u16; 16384],
-    inst: &[u16; 192],
+    inst: &[u16; 320],
     n: usize,
     t: &mut [u8; 12288],
 )
@@ -141,9 +146,9 @@ fn enter_at(
     let o = entry(ord, tree::wide(own[p]));
     let mut i = 0;
     while i < n {
-        if inst[3 * i] == h {
-            let f = tree::wide(inst[3 * i + 2]);
-            let d = tree::wide(inst[3 * i + 1]);
+        if inst[5 * i] == h {
+            let f = tree::wide(inst[5 * i + 2]);
+            let d = tree::wide(inst[5 * i + 1]);
             stamp(t, k, f + e, f + o, d);
             i += 1;
         } else {
@@ -160,7 +165,7 @@ pub fn first_conflict(
     rel: &[u16; 16384],
     own: &[u16; 16384],
     ord: &[u16; 16384],
-    inst: &[u16; 192],
+    inst: &[u16; 320],
     n: usize,
     t: &mut [u8; 12288],
 ) -> Found
@@ -204,7 +209,7 @@ fn steps_at(
     rel: &[u16; 16384],
     own: &[u16; 16384],
     ord: &[u16; 16384],
-    inst: &[u16; 192],
+    inst: &[u16; 320],
     n: usize,
     go: &mut [u16; 1024],
 )
@@ -217,9 +222,9 @@ fn steps_at(
     let o = entry(ord, tree::wide(own[p]));
     let mut i = 0;
     while i < n {
-        if inst[3 * i] == h {
-            let f = tree::wide(inst[3 * i + 2]);
-            let d = tree::wide(inst[3 * i + 1]);
+        if inst[5 * i] == h {
+            let f = tree::wide(inst[5 * i + 2]);
+            let d = tree::wide(inst[5 * i + 1]);
             put_step(go, k, f + e, f + o);
             i += 1;
         } else {
@@ -236,7 +241,7 @@ pub fn fill_steps(
     rel: &[u16; 16384],
     own: &[u16; 16384],
     ord: &[u16; 16384],
-    inst: &[u16; 192],
+    inst: &[u16; 320],
     n: usize,
     go: &mut [u16; 1024],
 )
@@ -321,7 +326,7 @@ fn aims_at_gone(
     rel: &[u16; 16384],
     own: &[u16; 16384],
     ord: &[u16; 16384],
-    inst: &[u16; 192],
+    inst: &[u16; 320],
     n: usize,
     aims: &[u16; 16384],
     par: &[u16; 16384],
@@ -335,8 +340,8 @@ fn aims_at_gone(
     let q = tree::wide(aims[p]);
     let mut i = 0;
     while i < n {
-        if inst[3 * i] == h {
-            let f = tree::wide(inst[3 * i + 2]);
+        if inst[5 * i] == h {
+            let f = tree::wide(inst[5 * i + 2]);
             if is_gone(s, w, f + e, q, ord, par, t) {
                 return true;
             }
@@ -356,7 +361,7 @@ pub fn first_lost(
     rel: &[u16; 16384],
     own: &[u16; 16384],
     ord: &[u16; 16384],
-    inst: &[u16; 192],
+    inst: &[u16; 320],
     n: usize,
     aims: &[u16; 16384],
     par: &[u16; 16384],
@@ -370,6 +375,189 @@ pub fn first_lost(
         let k = s[p];
         if k == 7 {
             if aims_at_gone(s, w, p, hold, rel, own, ord, inst, n, aims, par, t) {
+                return Found::At(p);
+            }
+            p += recipe::record_length(k, w);
+        } else {
+            p += recipe::record_length(k, w);
+        }
+    }
+    Found::Nothing
+}
+
+// Enters the element at p, in each instance of its definition: its place, and the number of the instance.
+fn elements_at(
+    s: &[u8],
+    w: usize,
+    p: usize,
+    hold: &[u16; 16384],
+    ord: &[u16; 16384],
+    inst: &[u16; 320],
+    n: usize,
+    place: &mut [u16; 1024],
+    within: &mut [u16; 1024],
+)
+    requires { ⌜ Counted (record { width = w; bytes = now s }) (now hold) (now ord) (now inst) n × (In p (places (record { width = w; bytes = now s })) × ((isElement (record { width = w; bytes = now s }) p ≡ true) × (Listed (record { width = w; bytes = now s }) (λ x. x .place < p) (now place) (now within) × ((length (now place) ≡ 1024) × (length (now within) ≡ 1024))))) ⌝ }
+    ensures { λ _. ⌜ Listed (record { width = w; bytes = now (s .entry) }) (λ x. x .place < next (record { width = w; bytes = now (s .entry) }) p) (now (place .exit)) (now (within .exit)) × ((length (now (place .exit)) ≡ 1024) × (length (now (within .exit)) ≡ 1024)) ⌝ }
+{
+    let h = hold[p];
+    let o = tree::wide(ord[p]);
+    let mut i = 0;
+    while i < n {
+        if inst[5 * i] == h {
+            let e = tree::wide(inst[5 * i + 2]) + o;
+            place[e] = p as u16;
+            within[e] = i as u16;
+            i += 1;
+        } else {
+            i += 1;
+        }
+    }
+}
+
+// The elements of the tree by their numbers: the place of each one's record, and the number of its instance.
+pub fn list_elements(
+    s: &[u8],
+    w: usize,
+    hold: &[u16; 16384],
+    ord: &[u16; 16384],
+    inst: &[u16; 320],
+    n: usize,
+    place: &mut [u16; 1024],
+    within: &mut [u16; 1024],
+)
+    requires { ⌜ Counted (record { width = w; bytes = now s }) (now hold) (now ord) (now inst) n × ((length (now place) ≡ 1024) × (length (now within) ≡ 1024)) ⌝ }
+    ensures { λ _. ⌜ Elements (record { width = w; bytes = now (s .entry) }) (now (place .exit)) (now (within .exit)) ⌝ }
+{
+    let mut p = 0;
+    while p < s.len() {
+        let k = s[p];
+        if k == 2 {
+            elements_at(s, w, p, hold, ord, inst, n, place, within);
+            p += recipe::record_length(k, w);
+        } else {
+            p += recipe::record_length(k, w);
+        }
+    }
+}
+
+// The element at p has no reference.
+fn refers_to_none(s: &[u8], w: usize, p: usize) -> bool
+    requires { ⌜ (w ≤ 65536) × ((length (now s) ≤ 16384) × (In p (places (record { width = w; bytes = now s })) × (isElement (record { width = w; bytes = now s }) p ≡ true))) ⌝ }
+    ensures { λ r. ⌜ r ≡ isBlank (referenceField (record { width = w; bytes = now (s .entry) }) p) ⌝ }
+{
+    let a = p + 1 + (2 * w + 1);
+    let b = a + w;
+    names::is_blank(&s[a..b])
+}
+
+// The element of number z is no fit end of a chain: it is gone, or of a class that a reference of class c must not have.
+fn is_unfit(
+    s: &[u8],
+    w: usize,
+    c: u8,
+    z: usize,
+    ord: &[u16; 16384],
+    par: &[u16; 16384],
+    t: &[u8; 12288],
+    place: &[u16; 1024],
+) -> bool
+    requires { ⌜ Marked (record { width = w; bytes = now s }) (now t) (now ord) (now par) × (PlacesAre (record { width = w; bytes = now s }) (now place) × Numbers (record { width = w; bytes = now s }) z) ⌝ }
+    ensures { λ r. ⌜ UnfitAt (record { width = w; bytes = now (s .entry) }) c z r ⌝ }
+{
+    let q = tree::wide(place[z]);
+    let gone = is_gone(s, w, z, q, ord, par, t);
+    gone | !flat_table::reference_allowed(c, s[q + 1 + w])
+}
+
+// The reference of the element at p, in the instance whose first element has the number f, is at fault.
+fn refers_wrongly(
+    s: &[u8],
+    w: usize,
+    p: usize,
+    f: usize,
+    ord: &[u16; 16384],
+    refs: &[u16; 16384],
+    par: &[u16; 16384],
+    t: &[u8; 12288],
+    go: &[u16; 1024],
+    place: &[u16; 1024],
+) -> bool
+    requires { ⌜ Judged (record { width = w; bytes = now s }) (now ord) (now refs) (now par) (now t) (now go) (now place) × Element (record { width = w; bytes = now s }) (f + getD (now ord) p 0) p ⌝ }
+    ensures { λ r. ⌜ FaultAt (record { width = w; bytes = now (s .entry) }) (f + getD (now (ord .entry)) p 0) r ⌝ }
+{
+    let c = s[p + 1 + w];
+    if refers_to_none(s, w, p) {
+        return !flat_table::reference_may_be_blank(c);
+    }
+    let q = tree::wide(refs[p]);
+    if q == 0 {
+        return true;
+    }
+    let y = f + tree::wide(ord[q]);
+    let z = chain_end(s, w, y, go);
+    is_unfit(s, w, c, z, ord, par, t, place)
+}
+
+// The element at p survives in some instance of its definition, and there its reference is at fault.
+fn misreferred_at(
+    s: &[u8],
+    w: usize,
+    p: usize,
+    hold: &[u16; 16384],
+    ord: &[u16; 16384],
+    inst: &[u16; 320],
+    n: usize,
+    refs: &[u16; 16384],
+    par: &[u16; 16384],
+    t: &[u8; 12288],
+    go: &[u16; 1024],
+    place: &[u16; 1024],
+) -> bool
+    requires { ⌜ References (record { width = w; bytes = now s }) (now hold) (now ord) (now inst) n (now refs) (now par) (now t) (now go) (now place) × (In p (places (record { width = w; bytes = now s })) × (isElement (record { width = w; bytes = now s }) p ≡ true)) ⌝ }
+    ensures { λ r. ⌜ r ≡ misrefers (record { width = w; bytes = now (s .entry) }) p ⌝ }
+{
+    let h = hold[p];
+    let o = tree::wide(ord[p]);
+    let mut i = 0;
+    while i < n {
+        if inst[5 * i] == h {
+            let f = tree::wide(inst[5 * i + 2]);
+            let gone = is_gone(s, w, f + o, p, ord, par, t);
+            let wrong = refers_wrongly(s, w, p, f, ord, refs, par, t, go, place);
+            if !gone & wrong {
+                return true;
+            }
+            i += 1;
+        } else {
+            i += 1;
+        }
+    }
+    false
+}
+
+// Row 12: the first element record of a survivor whose reference is at fault.
+pub fn first_misreferred(
+    s: &[u8],
+    w: usize,
+    hold: &[u16; 16384],
+    ord: &[u16; 16384],
+    inst: &[u16; 320],
+    n: usize,
+    refs: &[u16; 16384],
+    par: &[u16; 16384],
+    t: &[u8; 12288],
+    go: &[u16; 1024],
+    place: &[u16; 1024],
+) -> Found
+    requires { ⌜ References (record { width = w; bytes = now s }) (now hold) (now ord) (now inst) n (now refs) (now par) (now t) (now go) (now place) ⌝ }
+    ensures { λ r. ⌜ r ≡ foundOf (fault₁₂ (record { width = w; bytes = now (s .entry) })) ⌝ }
+{
+    let mut p = 0;
+    while p < s.len() {
+        let k = s[p];
+        if k == 2 {
+            if misreferred_at(s, w, p, hold, ord, inst, n, refs, par, t, go, place) {
                 return Found::At(p);
             }
             p += recipe::record_length(k, w);
