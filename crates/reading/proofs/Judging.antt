@@ -4,12 +4,13 @@ use mathlib.Core.Path.{_≡_, sym, ap, _∙_}
 use mathlib.Core.Bool.{_||_}
 use mathlib.Core.Option.{none}
 use mathlib.Core.List.{List}
-use Prim.Native.Nat.{ℕ, _≤_, _<_}
+use Prim.Native.Nat.{ℕ, suc, _≤_, _<_}
 use native.Mathlib.Omega.{arith}
 use lib.ListN.{length}
 use lib.Dec.{eqb, ltb}
 use borrow.Author.Tests.{ltb-false, lt-ltb, le-ltb}
 use Rattle.names.specs.Scans.{foundOf}
+use Rattle.names.specs.declared.Found.{Found}
 use Rattle.names.specs.declared.Found.the-variants.{At, Nothing}
 use Rattle.names.proofs.Tests.{by-cases, by-option, not-none, or-none-right}
 use Rattle.names.proofs.Scans.{found-some, found-nothing}
@@ -19,10 +20,11 @@ use Rattle.recipe.specs.Reading.{atStart, mostBytes, fault₁, fault₂, fault�
 use Rattle.recipe.proofs.Reading.{stop-within, read-through}
 use Rattle.links.specs.Entries.{Clear, ByPlace}
 use Rattle.links.specs.Links.{modelLink}
+use Rattle.heights.specs.Heights.{Judged}
 use Rattle.heights.specs.Search.{Ground}
 use Rattle.reading.specs.declared.ReadAnswer.{ReadAnswer}
 use Rattle.reading.specs.Answer.{answerOf, judge, judgedAlone, judgedNames, readVerdict}
-use Rattle.reading.specs.Tables.{Width}
+use Rattle.reading.specs.Tables.{Width, Known, Modelled, Linkable, Linked, Tables}
 
 module _ (s : Recipe) where
   -- ---- rows 1 to 3
@@ -68,6 +70,12 @@ module _ (s : Recipe) where
       pub names-0 : Nothing ≡ foundOf (fault₆ s) → answerOf 0 0 ≡ judgedNames s
       unfolding judgedNames judge
       names-0 e = rw (found-nothing h₄, found-nothing h₅, found-nothing e)
+
+      -- the tables where none applies
+      pub modelled-is : (model height : List ℕ) (r : Found) → Nothing ≡ r → Judged s height r → ByPlace s (modelLink s) model → Modelled s model height
+      modelled-is model height r e j m =
+          let h₆ = found-nothing (e ∙ j .found) in
+          record { row₄ = found-nothing h₄; row₅ = found-nothing h₅; row₆ = h₆; models = m; heights = j .heights h₆ }
 
   -- ---- both
   -- one of rows 1 to 3 refuses
@@ -132,3 +140,38 @@ module _ (s : Recipe) where
     holds = h;
     models = λ p i k. m p i ∙ rw k;
   }
+
+  -- what the tables of marks and elements ask
+  pub linkable-is : (at hold fields keys index : List ℕ) (n : ℕ) → Known s at hold fields keys index n → fault₄ s ≡ none → Linkable s at hold fields keys index n
+  linkable-is at hold fields keys index n k h = record { named = record { indexed = k .indexed; once = h }; holds = k .holds }
+
+  -- what is handed up
+  pub tables-are : (hold model height own sub par refs nxt : List ℕ) (a : ReadAnswer) → a ≡ judgedAlone s (answerOf 0 0) → a .number ≡ 0 → Width (s .width)
+      → ByPlace s (holder s) hold → Linked s model height own sub par refs nxt → Tables s hold model height own sub par refs nxt
+  tables-are hold model height own sub par refs nxt a e z w h l =
+      let k = clear-alone a e z in
+      let c = clear-is a e z w in
+      record {
+        wide = c .wide;
+        narrow = c .narrow;
+        short = c .short;
+        whole = c .whole;
+        row₁ = k .row₁;
+        row₂ = k .row₂;
+        row₃ = k .row₃;
+        row₄ = l .modelled .row₄;
+        row₅ = l .modelled .row₅;
+        row₆ = l .modelled .row₆;
+        holds = h;
+        models = l .modelled .models;
+        heights = l .modelled .heights;
+        owners = l .marks .owners;
+        submodels-are = l .marks .submodels-are;
+        parents = l .elements .parents;
+        references = l .elements .references;
+        nexts = l .marks .nexts;
+      }
+
+-- a row that refuses gives no 0
+pub not-zero : {X : Type 0} (a : ReadAnswer) (n p : ℕ) → a ≡ answerOf (suc n) p → a .number ≡ 0 → X
+not-zero a n p e z = absurd (let k : a .number ≡ suc n = ap (λ (x : ReadAnswer). x .number) e in omega arith)

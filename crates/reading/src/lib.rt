@@ -1,10 +1,14 @@
-// Reading a recipe: the refusals 1 to 6 in order.
-// Public call: bandrolt_read_recipe, exported to C, which requires nothing.
+// Reading a recipe: the refusals 1 to 6 in order, and where none applies the tables by place.
+// Public calls: answer and read_tables for the floors above, and bandrolt_read_recipe, exported to C, which requires nothing.
 ghost use mathlib.Core.Path.{_≡_};
+ghost use mathlib.Core.Option.{none};
 ghost use lib.ListN.{length};
 ghost use Rattle.recipe.specs.Records.{Recipe};
+ghost use Rattle.recipe.specs.Reading.{fault₅};
+ghost use Rattle.links.specs.Entries.{ByPlace};
+ghost use Rattle.links.specs.Links.{modelLink};
 ghost use Rattle.reading.specs.Answer.{answerOf, judgedAlone, judgedNames, readVerdict};
-ghost use Rattle.reading.specs.Tables.{Width, Known};
+ghost use Rattle.reading.specs.Tables.{Width, Room, Known, Modelled, Linkable, MarksLinked, ElementsLinked, Linked, Tables};
 use names::Found;
 
 // Number and place of the first row that applies, or 0 and 0.
@@ -14,7 +18,7 @@ pub struct ReadAnswer {
     pub place: u64,
 }
 
-fn answer(number: u64, place: usize) -> ReadAnswer
+pub fn answer(number: u64, place: usize) -> ReadAnswer
     ensures { λ r. ⌜ r ≡ answerOf number place ⌝ }
 {
     ReadAnswer {
@@ -41,7 +45,7 @@ fn judge_alone(s: &[u8], w: usize) -> ReadAnswer
     answer(0, 0)
 }
 
-// Rows 4 to 6.
+// Rows 4 to 6; where none applies, each submodel's model and each definition's height.
 fn judge_names(
     s: &[u8],
     w: usize,
@@ -51,9 +55,11 @@ fn judge_names(
     fields: &[u8],
     keys: &[u32],
     index: &[u16],
+    model: &mut [u16; 16384],
+    height: &mut [u16; 16384],
 ) -> ReadAnswer
-    requires { ⌜ Known (record { width = w; bytes = now s }) (now at) (now hold) (now fields) (now keys) (now index) n ⌝ }
-    ensures { λ r. ⌜ r ≡ judgedNames (record { width = w; bytes = now (s .entry) }) ⌝ }
+    requires { ⌜ Known (record { width = w; bytes = now s }) (now at) (now hold) (now fields) (now keys) (now index) n × ((length (now model) ≡ 16384) × (length (now height) ≡ 16384)) ⌝ }
+    ensures { λ r. ⌜ (r ≡ judgedNames (record { width = w; bytes = now (s .entry) })) × (r .number ≡ 0 → Modelled (record { width = w; bytes = now (s .entry) }) (now (model .exit)) (now (height .exit))) ⌝ }
 {
     if let Found::At(p) = links::first_repeated(s, w, n, at, fields, keys, index) {
         return answer(4, p);
@@ -61,13 +67,128 @@ fn judge_names(
     if let Found::At(p) = links::first_undeclared(s, w, n, at, fields, keys, index, hold) {
         return answer(5, p);
     }
-    let mut model = [0u16; 16384];
-    links::link_models(s, w, n, at, fields, keys, index, hold, &mut model);
-    let mut height = [0u16; 16384];
-    if let Found::At(p) = heights::find_heights(s, w, hold, &model, &mut height) {
+    links::link_models(s, w, n, at, fields, keys, index, hold, model);
+    if let Found::At(p) = heights::find_heights(s, w, hold, model, height) {
         return answer(6, p);
     }
     answer(0, 0)
+}
+
+// The tables of marks and ports: owners, submodels, and what they name.
+fn link_marks(
+    s: &[u8],
+    w: usize,
+    n: usize,
+    at: &[u16],
+    hold: &[u16; 16384],
+    fields: &[u8],
+    keys: &[u32],
+    index: &[u16],
+    model: &[u16; 16384],
+    own: &mut [u16; 16384],
+    sub: &mut [u16; 16384],
+    nxt: &mut [u16; 16384],
+)
+    requires { ⌜ Linkable (record { width = w; bytes = now s }) (now at) (now hold) (now fields) (now keys) (now index) n × ((fault₅ (record { width = w; bytes = now s }) ≡ none) × (ByPlace (record { width = w; bytes = now s }) (modelLink (record { width = w; bytes = now s })) (now model) × ((length (now own) ≡ 16384) × ((length (now sub) ≡ 16384) × (length (now nxt) ≡ 16384))))) ⌝ }
+    ensures { λ _. ⌜ MarksLinked (record { width = w; bytes = now (s .entry) }) (now (own .exit)) (now (sub .exit)) (now (nxt .exit)) ⌝ }
+{
+    links::link_owners(s, w, n, at, fields, keys, index, hold, own);
+    links::link_submodels(s, w, n, at, fields, keys, index, hold, sub);
+    links::link_targets(s, w, n, at, fields, keys, index, hold, model, sub, nxt);
+}
+
+// The tables of elements: parents and references.
+fn link_elements(
+    s: &[u8],
+    w: usize,
+    n: usize,
+    at: &[u16],
+    hold: &[u16; 16384],
+    fields: &[u8],
+    keys: &[u32],
+    index: &[u16],
+    par: &mut [u16; 16384],
+    refs: &mut [u16; 16384],
+)
+    requires { ⌜ Linkable (record { width = w; bytes = now s }) (now at) (now hold) (now fields) (now keys) (now index) n × ((length (now par) ≡ 16384) × (length (now refs) ≡ 16384)) ⌝ }
+    ensures { λ _. ⌜ ElementsLinked (record { width = w; bytes = now (s .entry) }) (now (par .exit)) (now (refs .exit)) ⌝ }
+{
+    links::link_parents(s, w, n, at, fields, keys, index, hold, par);
+    links::link_references(s, w, n, at, fields, keys, index, hold, refs);
+}
+
+// Rows 4 to 6; where none applies, all tables of links and each definition's height.
+fn link_tables(
+    s: &[u8],
+    w: usize,
+    n: usize,
+    at: &[u16],
+    hold: &[u16; 16384],
+    fields: &[u8],
+    keys: &[u32],
+    index: &[u16],
+    model: &mut [u16; 16384],
+    height: &mut [u16; 16384],
+    own: &mut [u16; 16384],
+    sub: &mut [u16; 16384],
+    par: &mut [u16; 16384],
+    refs: &mut [u16; 16384],
+    nxt: &mut [u16; 16384],
+) -> ReadAnswer
+    requires { ⌜ Known (record { width = w; bytes = now s }) (now at) (now hold) (now fields) (now keys) (now index) n × Room (now model) (now height) (now own) (now sub) (now par) (now refs) (now nxt) ⌝ }
+    ensures { λ r. ⌜ (r ≡ judgedNames (record { width = w; bytes = now (s .entry) })) × (r .number ≡ 0 → Linked (record { width = w; bytes = now (s .entry) }) (now (model .exit)) (now (height .exit)) (now (own .exit)) (now (sub .exit)) (now (par .exit)) (now (refs .exit)) (now (nxt .exit))) ⌝ }
+{
+    let a = judge_names(s, w, n, at, hold, fields, keys, index, model, height);
+    if a.number != 0 {
+        return a;
+    }
+    link_marks(s, w, n, at, hold, fields, keys, index, model, own, sub, nxt);
+    link_elements(s, w, n, at, hold, fields, keys, index, par, refs);
+    a
+}
+
+// Rows 1 to 6 of a recipe of name width w; where none applies, the tables by place.
+pub fn read_tables(
+    s: &[u8],
+    w: usize,
+    hold: &mut [u16; 16384],
+    model: &mut [u16; 16384],
+    height: &mut [u16; 16384],
+    own: &mut [u16; 16384],
+    sub: &mut [u16; 16384],
+    par: &mut [u16; 16384],
+    refs: &mut [u16; 16384],
+    nxt: &mut [u16; 16384],
+) -> ReadAnswer
+    requires { ⌜ Width w × ((length (now hold) ≡ 16384) × Room (now model) (now height) (now own) (now sub) (now par) (now refs) (now nxt)) ⌝ }
+    ensures { λ r. ⌜ (r ≡ readVerdict (record { width = w; bytes = now (s .entry) })) × (r .number ≡ 0 → Tables (record { width = w; bytes = now (s .entry) }) (now (hold .exit)) (now (model .exit)) (now (height .exit)) (now (own .exit)) (now (sub .exit)) (now (par .exit)) (now (refs .exit)) (now (nxt .exit))) ⌝ }
+{
+    let a = judge_alone(s, w);
+    if a.number != 0 {
+        return a;
+    }
+    let mut at = [0u16; 1536];
+    let mut fields = [0u8; 16384];
+    let mut keys = [0u32; 1536];
+    let mut index = [0u16; 1536];
+    let n = links::index_names(s, w, &mut at, hold, &mut fields, &mut keys, &mut index);
+    link_tables(
+        s,
+        w,
+        n,
+        &at,
+        hold,
+        &fields,
+        &keys,
+        &index,
+        model,
+        height,
+        own,
+        sub,
+        par,
+        refs,
+        nxt,
+    )
 }
 
 // Rows 1 to 6 of a recipe of name width 12.
@@ -75,23 +196,24 @@ fn judge_names(
 pub extern "C" fn bandrolt_read_recipe(recipe: &[u8]) -> ReadAnswer
     ensures { λ r. ⌜ r ≡ readVerdict (record { width = 12; bytes = now (recipe .entry) }) ⌝ }
 {
-    let a = judge_alone(recipe, 12);
-    if a.number != 0 {
-        return a;
-    }
-    let mut at = [0u16; 1536];
     let mut hold = [0u16; 16384];
-    let mut fields = [0u8; 16384];
-    let mut keys = [0u32; 1536];
-    let mut index = [0u16; 1536];
-    let n = links::index_names(
+    let mut model = [0u16; 16384];
+    let mut height = [0u16; 16384];
+    let mut own = [0u16; 16384];
+    let mut sub = [0u16; 16384];
+    let mut par = [0u16; 16384];
+    let mut refs = [0u16; 16384];
+    let mut nxt = [0u16; 16384];
+    read_tables(
         recipe,
         12,
-        &mut at,
         &mut hold,
-        &mut fields,
-        &mut keys,
-        &mut index,
-    );
-    judge_names(recipe, 12, n, &at, &hold, &fields, &keys, &index)
+        &mut model,
+        &mut height,
+        &mut own,
+        &mut sub,
+        &mut par,
+        &mut refs,
+        &mut nxt,
+    )
 }

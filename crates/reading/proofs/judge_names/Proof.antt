@@ -1,11 +1,9 @@
 -- `reading::judge_names` meets its contract: row by row, over the index of the records.
 -- Assumes nothing.
-use Prim.Native.Nat.{ℕ}
 use mathlib.Core.Path.{sym, _∙_}
 use native.Mathlib.Omega.{arith}
-use lib.ListN.{length-replicate}
 use Rattle.names.proofs.Scans.{found-nothing}
-use Rattle.reading.proofs.Judging.{names-4, names-5, names-6, names-0, ground-is}
+use Rattle.reading.proofs.Judging.{names-4, names-5, names-6, names-0, ground-is, modelled-is, not-zero}
 use borrow.Author.Needs.{needs}
 use Rattle.reading.proofs.judge_names.Statement.{statement}
 use Rattle.reading.proofs.judge_names.Tie as tie
@@ -25,13 +23,13 @@ answer-requires : tie.Need-answer-requires
 answer-requires c κs = search needs
 
 returns : tie.Need-returns
-returns c = c .answer .ensures ∙ names-4 (record { width = c .before .before .before .before .before .before .before .before .before .before .args .w; bytes = c .before .before .before .before .before .before .before .before .before .before .args .s .now }) _ (sym (c .before .before .p .given .1) ∙ c .before .before .before .before .first-repeated .ensures)
+returns c = let e = c .answer .ensures ∙ names-4 (record { width = c .before .before .before .before .before .before .before .before .before .before .args .w; bytes = c .before .before .before .before .before .before .before .before .before .before .args .s .now }) _ (sym (c .before .before .p .given .1) ∙ c .before .before .before .before .first-repeated .ensures) in (e, λ z. not-zero _ 3 _ (c .answer .ensures) z)
 
 enum-told : tie.Need-enum-told
 enum-told c = search needs
 
 first-undeclared-requires : tie.Need-first-undeclared-requires
-first-undeclared-requires c κs = (record { indexed = c .before .before .before .before .before .before .before .before .pre .indexed; once = found-nothing (sym (c .enum-told .given .1) ∙ c .before .before .first-repeated .ensures) }, c .before .before .before .before .before .before .before .before .pre .holds)
+first-undeclared-requires c κs = (record { indexed = c .before .before .before .before .before .before .before .before .pre .0 .indexed; once = found-nothing (sym (c .enum-told .given .1) ∙ c .before .before .first-repeated .ensures) }, c .before .before .before .before .before .before .before .before .pre .0 .holds)
 
 enum-known-p-2 : tie.Need-enum-known-p-2
 enum-known-p-2 c = search needs
@@ -40,22 +38,16 @@ answer-requires-2 : tie.Need-answer-requires-2
 answer-requires-2 c κs = search needs
 
 returns-2 : tie.Need-returns-2
-returns-2 c = c .answer2 .ensures ∙ names-5 (record { width = c .before .before .before .before .before .before .before .before .before .before .before .before .before .args .w; bytes = c .before .before .before .before .before .before .before .before .before .before .before .before .before .args .s .now }) (sym (c .before .before .before .before .before .enum-told .given .1) ∙ c .before .before .before .before .before .before .before .first-repeated .ensures) _ (sym (c .before .before .p2 .given .1) ∙ c .before .before .before .before .first-undeclared .ensures)
+returns-2 c = let e = c .answer2 .ensures ∙ names-5 (record { width = c .before .before .before .before .before .before .before .before .before .before .before .before .before .args .w; bytes = c .before .before .before .before .before .before .before .before .before .before .before .before .before .args .s .now }) (sym (c .before .before .before .before .before .enum-told .given .1) ∙ c .before .before .before .before .before .before .before .first-repeated .ensures) _ (sym (c .before .before .p2 .given .1) ∙ c .before .before .before .before .first-undeclared .ensures) in (e, λ z. not-zero _ 4 _ (c .answer2 .ensures) z)
 
 enum-told-2 : tie.Need-enum-told-2
 enum-told-2 c = search needs
 
 link-models-requires : tie.Need-link-models-requires
-link-models-requires c κs = (record { indexed = c .before .before .before .before .before .before .before .before .before .before .before .before .pre .indexed; once = found-nothing (sym (c .before .before .before .before .enum-told .given .1) ∙ c .before .before .before .before .before .before .first-repeated .ensures) }, (c .before .before .before .before .before .before .before .before .before .before .before .before .pre .holds, length-replicate {A = ℕ} 16384 0))
-
-slice-aggregate-find-heights : tie.Need-slice-aggregate-find-heights
-slice-aggregate-find-heights c = sym (c .before .before .link-models .ensures .1)
-
-slice-aggregate-find-heights-2 : tie.Need-slice-aggregate-find-heights-2
-slice-aggregate-find-heights-2 c = search needs
+link-models-requires c κs = (record { indexed = c .before .before .before .before .before .before .before .before .before .before .before .before .pre .0 .indexed; once = found-nothing (sym (c .before .before .before .before .enum-told .given .1) ∙ c .before .before .before .before .before .before .first-repeated .ensures) }, (c .before .before .before .before .before .before .before .before .before .before .before .before .pre .0 .holds, c .before .before .before .before .before .before .before .before .before .before .before .before .pre .1 .0))
 
 find-heights-requires : tie.Need-find-heights-requires
-find-heights-requires c κs = (ground-is (record { width = c .before .before .before .before .before .before .before .before .before .before .before .before .before .before .before .before .args .w; bytes = c .before .before .before .before .before .before .before .before .before .before .before .before .before .before .before .before .args .s .now }) _ _ (c .before .before .before .before .before .before .before .before .before .before .before .before .before .before .before .before .pre .indexed .clear) (c .before .before .before .before .before .before .before .before .before .before .before .before .before .before .before .before .pre .holds) (c .before .before .before .before .before .before .before .before .before .before .before .before .before .before .before .before .pre .long) (c .before .before .before .link-models .ensures .0) (c .before .before .before .link-models .ensures .1), omega (arith, c .before .before .before .before .before .before .before .before .before .before .before .before .before .before .before .before .pre .indexed .clear .short, length-replicate {A = ℕ} 16384 0))
+find-heights-requires c κs = (ground-is (record { width = c .before .before .before .before .before .before .before .before .before .before .before .before .before .before .before .before .before .args .w; bytes = c .before .before .before .before .before .before .before .before .before .before .before .before .before .before .before .before .before .args .s .now }) _ _ (c .before .before .before .before .before .before .before .before .before .before .before .before .before .before .before .before .before .pre .0 .indexed .clear) (c .before .before .before .before .before .before .before .before .before .before .before .before .before .before .before .before .before .pre .0 .holds) (c .before .before .before .before .before .before .before .before .before .before .before .before .before .before .before .before .before .pre .0 .long) (c .before .before .before .before .link-models .ensures .0) (c .before .before .before .before .link-models .ensures .1), omega (arith, c .before .before .before .before .before .before .before .before .before .before .before .before .before .before .before .before .before .pre .0 .indexed .clear .short, c .before .before .before .before .before .before .before .before .before .before .before .before .before .before .before .before .before .pre .1 .1))
 
 enum-known-p-3 : tie.Need-enum-known-p-3
 enum-known-p-3 c = search needs
@@ -64,7 +56,7 @@ answer-requires-3 : tie.Need-answer-requires-3
 answer-requires-3 c κs = search needs
 
 returns-3 : tie.Need-returns-3
-returns-3 c = c .answer3 .ensures ∙ names-6 (record { width = c .before .before .before .before .before .before .before .before .before .before .before .before .before .before .before .before .before .before .before .before .before .before .args .w; bytes = c .before .before .before .before .before .before .before .before .before .before .before .before .before .before .before .before .before .before .before .before .before .before .args .s .now }) (sym (c .before .before .before .before .before .before .before .before .before .before .before .before .before .before .enum-told .given .1) ∙ c .before .before .before .before .before .before .before .before .before .before .before .before .before .before .before .before .first-repeated .ensures) (sym (c .before .before .before .before .before .before .before .before .before .before .before .enum-told2 .given .1) ∙ c .before .before .before .before .before .before .before .before .before .before .before .before .before .first-undeclared .ensures) _ (sym (c .before .before .p3 .given .1) ∙ c .before .before .before .before .before .find-heights .ensures .found)
+returns-3 c = let e = c .answer3 .ensures ∙ names-6 (record { width = c .before .before .before .before .before .before .before .before .before .before .before .before .before .before .before .before .before .before .before .before .before .before .args .w; bytes = c .before .before .before .before .before .before .before .before .before .before .before .before .before .before .before .before .before .before .before .before .before .before .args .s .now }) (sym (c .before .before .before .before .before .before .before .before .before .before .before .before .before .before .enum-told .given .1) ∙ c .before .before .before .before .before .before .before .before .before .before .before .before .before .before .before .before .first-repeated .ensures) (sym (c .before .before .before .before .before .before .before .before .before .before .before .enum-told2 .given .1) ∙ c .before .before .before .before .before .before .before .before .before .before .before .before .before .first-undeclared .ensures) _ (sym (c .before .before .p3 .given .1) ∙ c .before .before .before .before .find-heights .ensures .found) in (e, λ z. not-zero _ 5 _ (c .answer3 .ensures) z)
 
 enum-told-3 : tie.Need-enum-told-3
 enum-told-3 c = search needs
@@ -73,7 +65,7 @@ answer-requires-4 : tie.Need-answer-requires-4
 answer-requires-4 c κs = search needs
 
 returns-4 : tie.Need-returns-4
-returns-4 c = c .answer4 .ensures ∙ names-0 (record { width = c .before .before .before .before .before .before .before .before .before .before .before .before .before .before .before .before .before .before .before .before .before .args .w; bytes = c .before .before .before .before .before .before .before .before .before .before .before .before .before .before .before .before .before .before .before .before .before .args .s .now }) (sym (c .before .before .before .before .before .before .before .before .before .before .before .before .before .enum-told .given .1) ∙ c .before .before .before .before .before .before .before .before .before .before .before .before .before .before .before .first-repeated .ensures) (sym (c .before .before .before .before .before .before .before .before .before .before .enum-told2 .given .1) ∙ c .before .before .before .before .before .before .before .before .before .before .before .before .first-undeclared .ensures) (sym (c .before .enum-told3 .given .1) ∙ c .before .before .before .before .find-heights .ensures .found)
+returns-4 c = (c .answer4 .ensures ∙ names-0 (record { width = c .before .before .before .before .before .before .before .before .before .before .before .before .before .before .before .before .before .before .before .before .before .args .w; bytes = c .before .before .before .before .before .before .before .before .before .before .before .before .before .before .before .before .before .before .before .before .before .args .s .now }) (sym (c .before .before .before .before .before .before .before .before .before .before .before .before .before .enum-told .given .1) ∙ c .before .before .before .before .before .before .before .before .before .before .before .before .before .before .before .first-repeated .ensures) (sym (c .before .before .before .before .before .before .before .before .before .before .enum-told2 .given .1) ∙ c .before .before .before .before .before .before .before .before .before .before .before .before .first-undeclared .ensures) (sym (c .before .enum-told3 .given .1) ∙ c .before .before .before .find-heights .ensures .found), λ z. modelled-is (record { width = c .before .before .before .before .before .before .before .before .before .before .before .before .before .before .before .before .before .before .before .before .before .args .w; bytes = c .before .before .before .before .before .before .before .before .before .before .before .before .before .before .before .before .before .before .before .before .before .args .s .now }) (sym (c .before .before .before .before .before .before .before .before .before .before .before .before .before .enum-told .given .1) ∙ c .before .before .before .before .before .before .before .before .before .before .before .before .before .before .before .first-repeated .ensures) (sym (c .before .before .before .before .before .before .before .before .before .before .enum-told2 .given .1) ∙ c .before .before .before .before .before .before .before .before .before .before .before .before .first-undeclared .ensures) _ _ _ (sym (c .before .enum-told3 .given .1)) (c .before .before .before .find-heights .ensures) (c .before .before .before .before .before .before .before .before .link-models .ensures .0))
 
 pub judge-names-spec : {M : Type 1} → statement M
 judge-names-spec =
@@ -90,8 +82,6 @@ judge-names-spec =
     returns-2
     enum-told-2
     link-models-requires
-    slice-aggregate-find-heights
-    slice-aggregate-find-heights-2
     find-heights-requires
     enum-known-p-3
     answer-requires-3
