@@ -1,5 +1,9 @@
--- The laws of prefixes and flat names: their lengths, and that no two elements of the tree have one.
+-- The laws of prefixes and flat names: their lengths, that no two elements of the tree have one, and what writes them.
 pub mod Prefixes
 pub mod Apart
 pub mod OneName
 pub mod Lengths
+pub mod Puts
+pub mod Underscores
+pub mod Looking
+pub mod Filling

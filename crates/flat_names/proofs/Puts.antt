@@ -1,0 +1,211 @@
+-- Bytes written one after the other; the field of a flat name is its row, its name with the zeros behind it, and zeros.
+-- Assumes nothing.
+use mathlib.Core.Path.{_≡_, refl, sym, ap, _∙_}
+use Prim.Native.Nat.{ℕ, _+_, _*_, _-_, _≤_, _<_}
+use native.Mathlib.Omega.{arith}
+use native.Mathlib.Nat.{mul-le-mul-left, mul-le-mul-right}
+use native.Mathlib.Numerals.{add-one}
+use mathlib.Core.Bool.{true, not, _&&_}
+use mathlib.Core.List.{List, [], _∷_, _++_, append-assoc}
+use lib.ListN.{length, getD, set, take, drop, replicate, length-append, length-set, length-drop, length-replicate, replicate-append-replicate, take-append-drop}
+use lib.Seq.{sets, take-suc, getD-drop, length-take-le}
+use lib.Dec.{eqb, ltb}
+use borrow.Author.Tests.{eqb-true, ltb-false, not-false}
+use Rattle.names.specs.Lists.{In, every, padded}
+use Rattle.names.specs.Names.{text, nonZero, isBlank, isName, isNameOrBlank, areNameCharacters, fieldAt}
+use Rattle.names.proofs.Tests.{by-cases, not-both, and-left, and-right, or-none-left}
+use Rattle.names.proofs.Lists.{none-first, take-while, getD-in}
+use Rattle.flat_table.specs.Classes.{isClass}
+use Rattle.flat_table.specs.Table.{flatWidth}
+use Rattle.recipe.specs.Records.{Recipe, kind, places, isModel, isElement, class, field, firstField, name, parentField}
+use Rattle.recipe.specs.Definitions.{main, elements}
+use Rattle.recipe.specs.Reading.{isForm, isElementForm, fault₃}
+use Rattle.recipe.proofs.Definitions.{in-elements, name-short}
+use Rattle.recipe.proofs.Going.{class-low}
+use Rattle.recipe.proofs.Rows.{not-at-start}
+use Rattle.tree.specs.Tree.{instances, node, treeElements, definitionAt, Submodels}
+use Rattle.tree.specs.Faults.{fault₇, isTooLarge, mostInstances}
+use Rattle.tree.proofs.Nodes.{in-tree}
+use Rattle.tree.proofs.Instances.{instance-path, at-most-four}
+use Rattle.tree.proofs.Walks.{sets-append}
+use Rattle.flat_names.specs.Prefixes.{flatName}
+use Rattle.flat_names.specs.Rows.{Naming, Prefixed, prefixesOf, rowWidth}
+use Rattle.flat_names.proofs.Lengths.{prefixes-bytes}
+
+-- ---- one more byte
+put-one : (out₀ out : List ℕ) (at : ℕ) (vs : List ℕ) (k x : ℕ) → length vs ≡ k → out ≡ sets out₀ at vs → set out (at + k) x ≡ sets out₀ at (vs ++ x ∷ [])
+put-one out₀ out at vs k x l e = rw (e, ← l) (sym (sets-append vs out₀ at (x ∷ [])))
+
+-- k times x is written
+pub record Repeated (x : ℕ) (out₀ : List ℕ) (at : ℕ) (out : List ℕ) (k : ℕ) : Type 0 where
+  pub long : length out ≡ length out₀
+  pub is : out ≡ sets out₀ at (replicate k x)
+
+pub repeated-start : (x : ℕ) (out : List ℕ) (at : ℕ) → Repeated x out at out 0
+repeated-start x out at = record { long = refl; is = refl }
+
+pub repeated-one : {x : ℕ} {out₀ : List ℕ} {at : ℕ} {out : List ℕ} {k : ℕ} → Repeated x out₀ at out k → Repeated x out₀ at (set out (at + k) x) (k + 1)
+repeated-one {x} {out₀} {at} {out} {k} z = record {
+  long = length-set out (at + k) x ∙ z .long;
+  is = put-one out₀ out at (replicate k x) k x (length-replicate k x) (z .is) ∙ ap (sets out₀ at) (replicate-append-replicate k 1 x);
+}
+
+-- k bytes are copied
+pub record Copied (s : List ℕ) (a : ℕ) (out₀ : List ℕ) (at : ℕ) (out : List ℕ) (k : ℕ) : Type 0 where
+  pub long : length out ≡ length out₀
+  pub is : out ≡ sets out₀ at (take k (drop a s))
+
+pub copied-start : (s : List ℕ) (a : ℕ) (out : List ℕ) (at : ℕ) → Copied s a out at out 0
+copied-start s a out at = record { long = refl; is = refl }
+
+pub copied-one : {s : List ℕ} {a : ℕ} {out₀ : List ℕ} {at : ℕ} {out : List ℕ} {k : ℕ} → Copied s a out₀ at out k → a + k < length s
+    → Copied s a out₀ at (set out (at + k) (getD s (a + k) 0)) (k + 1)
+copied-one {s} {a} {out₀} {at} {out} {k} z h =
+    let f = drop a s in
+    let l : k < length f = omega (arith, length-drop a s) in
+    let more : take k f ++ (getD s (a + k) 0 ∷ []) ≡ take (k + 1) f = sym (rw (add-one, take-suc f k 0 l, getD-drop a s k 0)) in
+    record {
+      long = length-set out (at + k) (getD s (a + k) 0) ∙ z .long;
+      is =
+          put-one out₀ out at (take k f) k (getD s (a + k) 0) (length-take-le k f (omega arith)) (z .is)
+          ∙ ap (sets out₀ at) more;
+    }
+
+-- ---- three parts
+pub parts : (out o₁ o₂ o₃ : List ℕ) (at : ℕ) (a b c : List ℕ) (l w : ℕ) → length a ≡ l → length b ≡ w
+    → o₁ ≡ sets out at a → o₂ ≡ sets o₁ (at + l) b → o₃ ≡ sets o₂ (at + (l + w)) c → o₃ ≡ sets out at (a ++ b ++ c)
+parts out o₁ o₂ o₃ at a b c l w la lb e₁ e₂ e₃ =
+    let two : o₂ ≡ sets out at (a ++ b) =
+    e₂ ∙ (ap (λ (o : List ℕ). sets o (at + l) b) e₁ ∙ (ap (λ (k : ℕ). sets (sets out at a) (at + k) b) (sym la) ∙ sym (sets-append a out at b))) in
+    let on : at + (l + w) ≡ at + length (a ++ b) = omega (arith, length-append a b) in
+    e₃ ∙ (ap (λ (o : List ℕ). sets o (at + (l + w)) c) two ∙ (ap (λ (k : ℕ). sets (sets out at (a ++ b)) k c) on ∙ sym (sets-append (a ++ b) out at c)))
+
+-- ---- a name's field is the name and zeros
+blank-zeros : (f : List ℕ) → isBlank f ≡ true → f ≡ replicate (length f) 0
+unfolding isBlank
+blank-zeros [] e = refl
+blank-zeros (x ∷ f) e =
+    by-cases (eqb 0 x)
+    (λ h. let z : 0 ≡ x = eqb-true 0 x h in let r : f ≡ replicate (length f) 0 = blank-zeros f (rw (h, every) at e) in cc)
+    (λ h. not-both e (rw (h, every)))
+
+name-padding : (w : ℕ) (f : List ℕ) → isName f ≡ true → length f ≡ w → f ≡ padded w (text f)
+unfolding isName text padded
+name-padding w f e l =
+    let t = text f in
+    let b = blank-zeros (drop (length t) f) (and-right (areNameCharacters t) (isBlank (drop (length t) f)) e) in
+    let n : length (drop (length t) f) ≡ w - length t = rw (length-drop, l) in
+    sym (take-append-drop (length t) f)
+    ∙ (ap (λ (k : List ℕ). k ++ drop (length t) f) (take-while nonZero f)
+    ∙ (ap (λ (k : List ℕ). t ++ k) b ∙ ap (λ (k : ℕ). t ++ replicate k 0) n))
+
+-- the prefixes, the name's field and zeros are the flat name's field
+padded-parts : (w : ℕ) (p n : List ℕ) → length p ≤ 4 * w + 8 → length n ≤ w
+    → p ++ padded w n ++ replicate (4 * w + 8 - length p) 0 ≡ padded (5 * w + 8) (p ++ n)
+unfolding padded
+padded-parts w p n hp hn =
+    let a : List ℕ = replicate (w - length n) 0 in
+    let b : List ℕ = replicate (4 * w + 8 - length p) 0 in
+    let z : w - length n + (4 * w + 8 - length p) ≡ 5 * w + 8 - length (p ++ n) = rw length-append (omega arith) in
+    append-assoc p (n ++ a) b
+    ∙ (ap (λ (k : List ℕ). p ++ k) (append-assoc n a b)
+    ∙ (sym (append-assoc p n (a ++ b))
+    ∙ (ap (λ (k : List ℕ). p ++ n ++ k) (replicate-append-replicate (w - length n) (4 * w + 8 - length p) 0)
+    ∙ ap (λ (k : ℕ). p ++ n ++ replicate k 0) z)))
+
+-- a row lies in the table of 64
+pub row-room : (i w : ℕ) → i < 64 → w ≤ 64 → i * (4 * w + 8) + (4 * w + 8) ≤ 16896
+row-room i w h l =
+    let a : i * (4 * w + 8) ≤ 63 * (4 * w + 8) = mul-le-mul-right (4 * w + 8) (let g : i ≤ 63 = omega arith in g) in
+    omega arith
+
+-- ---- a flat name, of the element at q in instance i
+pub record NameAt (s : Recipe) (i q : ℕ) : Type 0 where
+  pub low : i < 64
+  pub short : length (prefixesOf s i) ≤ 4 * s .width + 8
+  pub row : i * (4 * s .width + 8) + (4 * s .width + 8) ≤ 16896
+  pub inside : q + 1 + s .width < length (s .bytes)
+  pub reads : take (s .width) (drop (q + 1) (s .bytes)) ≡ padded (s .width) (name s q)
+  pub named : flatName s (node (getD (instances s) i []) q) ≡ prefixesOf s i ++ name s q
+
+pub field-room : (w at n : ℕ) → at + flatWidth w ≤ n → at + (5 * w + 8) ≤ n
+unfolding flatWidth
+field-room w at n h = h
+
+module _ (s : Recipe) (x : Naming s) where
+  pub instances-few : length (instances s) ≤ 64
+  unfolding fault₇ isTooLarge mostInstances
+  instances-few =
+      let n = not-at-start (isTooLarge s) (x .small) in
+      ltb-false 64 (length (instances s)) (or-none-left (ltb 64 (length (instances s))) _ (or-none-left _ _ n))
+
+  pub prefixes-short : (i : ℕ) → i < length (instances s) → length (prefixesOf s i) ≤ 4 * s .width + 8
+  unfolding prefixesOf
+  prefixes-short i h =
+      let w = x .wide in
+      let path = getD (instances s) i [] in
+      let p : Submodels s main path = instance-path s path (getD-in (instances s) i [] h) in
+      let four : (s .width + 2) * length path ≤ (s .width + 2) * 4 = mul-le-mul-left (s .width + 2) (at-most-four s (x .small) path p) in
+      omega (arith, prefixes-bytes s (let t : 2 ≤ s .width = omega arith in t) (x .formed) main path p)
+
+  -- an element's field reads as a name
+  element-name : (d q : ℕ) → In q (elements s d) → isName (firstField s q) ≡ true
+  unfolding fault₃ isForm isElementForm isModel isElement
+  element-name d q i =
+      let r = in-elements s d q i in
+      let k : kind s q ≡ 2 = eqb-true (kind s q) 2 (r .passes) in
+      let f : isForm s q ≡ true = not-false (isForm s q) (none-first (λ p. not (isForm s p)) (places s) q (x .formed) (r .placed)) in
+      let g : isElementForm s q ≡ true = rw k at f in
+      let n = isName (firstField s q) in
+      and-left n _ (and-left (n && isClass (class s q)) _ (and-left (n && isClass (class s q) && isNameOrBlank (parentField s q)) _ g))
+
+  pub element-low : (d q : ℕ) → In q (elements s d) → q + 1 + s .width < length (s .bytes)
+  element-low d q i = let r = in-elements s d q i in class-low s q (r .placed) (r .passes)
+
+  element-field : (d q : ℕ) → In q (elements s d) → take (s .width) (drop (q + 1) (s .bytes)) ≡ padded (s .width) (name s q)
+  unfolding name firstField field fieldAt
+  element-field d q i =
+      let low = element-low d q i in
+      let f = take (s .width) (drop (q + 1 + 0) (s .bytes)) in
+      let l : length f ≡ s .width = length-take-le (s .width) (drop (q + 1 + 0) (s .bytes)) (omega (arith, length-drop (q + 1 + 0) (s .bytes))) in
+      let z : q + 1 ≡ q + 1 + 0 = omega arith in
+      ap (λ (k : ℕ). take (s .width) (drop k (s .bytes))) z ∙ name-padding (s .width) f (element-name d q i) l
+
+  pub name-at : (i q : ℕ) → i < length (instances s) → In (node (getD (instances s) i []) q) (treeElements s) → NameAt s i q
+  unfolding node flatName prefixesOf
+  name-at i q h e =
+      let few = instances-few in
+      let m = x .narrow in
+      let path = getD (instances s) i [] in
+      let k : In q (elements s (definitionAt s path)) = in-tree s (node path q) e .1 in
+      record {
+        low = omega arith;
+        short = prefixes-short i h;
+        row = row-room i (s .width) (let g : i < 64 = omega arith in g) m;
+        inside = element-low (definitionAt s path) q k;
+        reads = element-field (definitionAt s path) q k;
+        named = refl;
+      }
+
+  pub row-short : (pre len : List ℕ) (i l : ℕ) → Prefixed s pre len → i < length (instances s) → l ≡ getD len i 0 → l ≤ 4 * s .width + 8
+  row-short pre len i l t h c = omega (arith, t .lengths i h, prefixes-short i h)
+
+  pub put-name : (pre len : List ℕ) (i q : ℕ) (out o₁ o₂ o₃ : List ℕ) (at l : ℕ) → Prefixed s pre len → i < length (instances s)
+      → In (node (getD (instances s) i []) q) (treeElements s) → l ≡ getD len i 0
+      → o₁ ≡ sets out at (take l (drop (i * rowWidth (s .width)) pre))
+      → o₂ ≡ sets o₁ (at + l) (take (s .width) (drop (q + 1) (s .bytes)))
+      → o₃ ≡ sets o₂ (at + (l + s .width)) (replicate (rowWidth (s .width) - l) 0)
+      → o₃ ≡ sets out at (padded (flatWidth (s .width)) (flatName s (node (getD (instances s) i []) q)))
+  unfolding flatWidth padded
+  put-name pre len i q out o₁ o₂ o₃ at l t h e c e₁ e₂ e₃ =
+      let n = name-at i q h e in
+      let p = prefixesOf s i in
+      let k : l ≡ length p = c ∙ t .lengths i h in
+      let f : List ℕ = padded (s .width) (name s q) in
+      let b : List ℕ = replicate (rowWidth (s .width) - length p) 0 in
+      let lf : length f ≡ s .width = rw (length-append, length-replicate) (omega (arith, name-short s q)) in
+      parts out o₁ o₂ o₃ at p f b (length p) (s .width) refl lf
+      (e₁ ∙ (ap (λ (j : ℕ). sets out at (take j (drop (i * rowWidth (s .width)) pre))) k ∙ ap (sets out at) (t .bytes i h)))
+      (e₂ ∙ rw (k, n .reads))
+      (e₃ ∙ rw k)
+      ∙ ap (sets out at) (padded-parts (s .width) p (name s q) (n .short) (name-short s q) ∙ ap (padded (5 * s .width + 8)) (sym (n .named)))

@@ -1,0 +1,53 @@
+-- `flat_names::put_same` meets its contract: the invariant: k bytes are written.
+-- Assumes nothing.
+use Prim.Native.Nat.{_-_, _≤_}
+use native.Mathlib.Omega.{arith}
+use mathlib.Core.Path.{_≡_}
+use Rattle.flat_names.proofs.Puts.{Repeated, repeated-start, repeated-one}
+use Rattle.flat_names.proofs.put_same.Statement.{statement}
+use Rattle.flat_names.proofs.put_same.Tie as tie
+
+abbrev Inv-loop : tie.InvT-loop
+Inv-loop out₀ at n x k₀ out k = (k ≤ n) × Repeated x out₀ at out k
+
+abbrev μ-loop : tie.MeasureT-loop
+μ-loop out₀ at n x k₀ out k = n - k
+
+loop-holds : tie.Need-loop-holds Inv-loop μ-loop
+loop-holds c = (omega arith, repeated-start _ _ _)
+
+add-out : tie.Need-add-out Inv-loop μ-loop
+add-out c = omega (arith, c .before .loop .inv .1 .long)
+
+slice-write-out : tie.Need-slice-write-out Inv-loop μ-loop
+slice-write-out c = omega (arith, c .before .loop .inv .1 .long)
+
+add-k : tie.Need-add-k Inv-loop μ-loop
+add-k c = omega arith
+
+loop-less : tie.Need-loop-less Inv-loop μ-loop
+loop-less c = omega arith
+
+loop-again : tie.Need-loop-again Inv-loop μ-loop
+loop-again c = (omega arith, repeated-one (c .before .loop .inv .1))
+
+same-length : tie.Need-same-length Inv-loop μ-loop
+same-length c = c .before .loop .inv .1 .long
+
+returns : tie.Need-returns Inv-loop μ-loop
+returns c = let i = c .before .loop .inv in let e : c .before .loop .k ≡ c .before .before .args .n = omega (arith, i .0) in rw e at (i .1 .is)
+
+pub put-same-spec : {M : Type 1} → statement M
+put-same-spec =
+    tie.close
+    (tie.spec
+    Inv-loop
+    μ-loop
+    loop-holds
+    add-out
+    slice-write-out
+    add-k
+    loop-less
+    loop-again
+    same-length
+    returns)
