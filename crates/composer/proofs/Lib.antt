@@ -7,3 +7,6 @@ pub mod Characters
 pub mod Table
 pub mod Verdicts
 pub mod Printed
+pub mod ByNumber
+pub mod Fields
+pub mod Writing

@@ -1,3 +1,19 @@
+// Flattening: the flat table of a recipe that no row refuses, written from the tables of the floors below.
+// For flatten: count_survivors, write_table. They take the name width w, and the tables.
+ghost use mathlib.Core.Path.{_≡_};
+ghost use mathlib.Core.Option.{some};
+ghost use mathlib.Core.List.{_++_};
+ghost use Prim.Native.Nat.{_+_, _-_, _*_, _<_, _≤_};
+ghost use lib.ListN.{length, getD, drop};
+ghost use lib.Seq.{sets};
+ghost use Rattle.flat_table.specs.Table.{flatWidth, flatLength};
+ghost use Rattle.recipe.specs.Records.{Recipe};
+ghost use Rattle.tree.specs.Tree.{treeElements, parentOf};
+ghost use Rattle.marks.specs.Gone.{Marked};
+ghost use Rattle.marks.specs.Marks.{isGone, survivors};
+ghost use Rattle.composer.specs.Flat.{flatField, flatReference, flatRecord, flat};
+ghost use Rattle.composer.specs.Writing.{elementAt, PlacesAre, ParentsAre, Named, Referring, Writing};
+
 // Flattening's answer: 0, or the number and place of the refusal; the records and bytes written.
 #[repr(C)]
 pub struct Answer {
@@ -5,4 +21,193 @@ pub struct Answer {
     pub place: u64,
     pub count: u64,
     pub bytes: u64,
+}
+
+// Whether the element of number e is gone.
+fn gone_at(
+    s: &[u8],
+    w: usize,
+    cells: &[u8; 12288],
+    ord: &[u16; 16384],
+    par: &[u16; 16384],
+    place: &[u16; 1024],
+    e: usize,
+) -> bool
+    requires { ⌜ Marked (record { width = w; bytes = now s }) (now cells) (now ord) (now par) × (PlacesAre (record { width = w; bytes = now s }) (now place) × (e < length (treeElements (record { width = w; bytes = now s })))) ⌝ }
+    ensures { λ r. ⌜ r ≡ isGone (record { width = w; bytes = now (s .entry) }) (elementAt (record { width = w; bytes = now (s .entry) }) e) ⌝ }
+{
+    let q = tree::wide(place[e]);
+    marks::is_gone(s, w, e, q, ord, par, cells)
+}
+
+// How many elements of the tree survive; it has `total` elements.
+fn count_survivors(
+    s: &[u8],
+    w: usize,
+    cells: &[u8; 12288],
+    ord: &[u16; 16384],
+    par: &[u16; 16384],
+    place: &[u16; 1024],
+    total: usize,
+) -> usize
+    requires { ⌜ Marked (record { width = w; bytes = now s }) (now cells) (now ord) (now par) × (PlacesAre (record { width = w; bytes = now s }) (now place) × (total ≡ length (treeElements (record { width = w; bytes = now s })))) ⌝ }
+    ensures { λ r. ⌜ r ≡ length (survivors (record { width = w; bytes = now (s .entry) })) ⌝ }
+{
+    let mut e = 0usize;
+    let mut n = 0usize;
+    while e < total {
+        if gone_at(s, w, cells, ord, par, place, e) {
+            e += 1;
+        } else {
+            n += 1;
+            e += 1;
+        }
+    }
+    n
+}
+
+// Writes the field of the element of number e: its flat name.
+fn put_element(
+    s: &[u8],
+    w: usize,
+    place: &[u16; 1024],
+    within: &[u16; 1024],
+    pre: &[u8; 16896],
+    len: &[u16; 64],
+    e: usize,
+    out: &mut [u8],
+    at: usize,
+)
+    requires { ⌜ Named (record { width = w; bytes = now s }) (now place) (now within) (now pre) (now len) × ((e < length (treeElements (record { width = w; bytes = now s }))) × (at + flatWidth w ≤ length (now out))) ⌝ }
+    ensures { λ _. ⌜ now (out .exit) ≡ sets (now (out .entry)) at (flatField (record { width = w; bytes = now (s .entry) }) (some (elementAt (record { width = w; bytes = now (s .entry) }) e))) ⌝ }
+{
+    let q = tree::wide(place[e]);
+    let i = tree::wide(within[e]);
+    flat_names::put_name(s, w, pre, len, i, q, out, at);
+}
+
+// Writes the field of its parent, which is an element of the same instance, or a blank.
+fn put_parent(
+    s: &[u8],
+    w: usize,
+    par: &[u16; 16384],
+    place: &[u16; 1024],
+    within: &[u16; 1024],
+    pre: &[u8; 16896],
+    len: &[u16; 64],
+    e: usize,
+    out: &mut [u8],
+    at: usize,
+)
+    requires { ⌜ Named (record { width = w; bytes = now s }) (now place) (now within) (now pre) (now len) × (ParentsAre (record { width = w; bytes = now s }) (now par) × ((e < length (treeElements (record { width = w; bytes = now s }))) × (at + flatWidth w ≤ length (now out)))) ⌝ }
+    ensures { λ _. ⌜ now (out .exit) ≡ sets (now (out .entry)) at (flatField (record { width = w; bytes = now (s .entry) }) (parentOf (record { width = w; bytes = now (s .entry) }) (elementAt (record { width = w; bytes = now (s .entry) }) e))) ⌝ }
+{
+    let q = tree::wide(place[e]);
+    let m = tree::wide(par[q]);
+    if m == 0 {
+        flat_names::put_zeros(out, at, 5 * w + 8);
+        return;
+    }
+    let i = tree::wide(within[e]);
+    flat_names::put_name(s, w, pre, len, i, m, out, at);
+}
+
+// The number of the element at m in the instance of the element of number e, which is at q.
+fn sibling(ord: &[u16; 16384], e: usize, q: usize, m: usize) -> usize
+    requires { ⌜ (q < 16384) × ((m < 16384) × ((e < 1024) × (getD (now ord) q 0 ≤ e))) ⌝ }
+    ensures { λ r. ⌜ r ≡ e - getD (now (ord .entry)) q 0 + getD (now (ord .entry)) m 0 ⌝ }
+{
+    let a = tree::wide(ord[q]);
+    let b = tree::wide(ord[m]);
+    e - a + b
+}
+
+// Writes the field of the end of the chain from its reference, or a blank.
+fn put_reference(
+    s: &[u8],
+    w: usize,
+    ord: &[u16; 16384],
+    refs: &[u16; 16384],
+    go: &[u16; 1024],
+    place: &[u16; 1024],
+    within: &[u16; 1024],
+    pre: &[u8; 16896],
+    len: &[u16; 64],
+    e: usize,
+    out: &mut [u8],
+    at: usize,
+)
+    requires { ⌜ Named (record { width = w; bytes = now s }) (now place) (now within) (now pre) (now len) × (Referring (record { width = w; bytes = now s }) (now ord) (now refs) (now go) × ((e < length (treeElements (record { width = w; bytes = now s }))) × (at + flatWidth w ≤ length (now out)))) ⌝ }
+    ensures { λ _. ⌜ now (out .exit) ≡ sets (now (out .entry)) at (flatField (record { width = w; bytes = now (s .entry) }) (flatReference (record { width = w; bytes = now (s .entry) }) (elementAt (record { width = w; bytes = now (s .entry) }) e))) ⌝ }
+{
+    let q = tree::wide(place[e]);
+    let m = tree::wide(refs[q]);
+    if m == 0 {
+        flat_names::put_zeros(out, at, 5 * w + 8);
+        return;
+    }
+    let y = sibling(ord, e, q, m);
+    let z = marks::chain_end(s, w, y, go);
+    put_element(s, w, place, within, pre, len, z, out, at);
+}
+
+// Writes the flat record of the element of number e.
+fn put_record(
+    s: &[u8],
+    w: usize,
+    ord: &[u16; 16384],
+    par: &[u16; 16384],
+    refs: &[u16; 16384],
+    go: &[u16; 1024],
+    place: &[u16; 1024],
+    within: &[u16; 1024],
+    pre: &[u8; 16896],
+    len: &[u16; 64],
+    e: usize,
+    out: &mut [u8],
+    at: usize,
+)
+    requires { ⌜ Named (record { width = w; bytes = now s }) (now place) (now within) (now pre) (now len) × (ParentsAre (record { width = w; bytes = now s }) (now par) × (Referring (record { width = w; bytes = now s }) (now ord) (now refs) (now go) × ((e < length (treeElements (record { width = w; bytes = now s }))) × (at + flatLength w ≤ length (now out))))) ⌝ }
+    ensures { λ _. ⌜ now (out .exit) ≡ sets (now (out .entry)) at (flatRecord (record { width = w; bytes = now (s .entry) }) (elementAt (record { width = w; bytes = now (s .entry) }) e)) ⌝ }
+{
+    let f = 5 * w + 8;
+    let a = at + 1;
+    let b = a + f;
+    let c = b + f;
+    out[at] = s[tree::wide(place[e]) + 1 + w];
+    put_element(s, w, place, within, pre, len, e, out, a);
+    put_parent(s, w, par, place, within, pre, len, e, out, b);
+    put_reference(s, w, ord, refs, go, place, within, pre, len, e, out, c);
+}
+
+// Writes the flat table: the record of each survivor, in tree order.
+fn write_table(
+    s: &[u8],
+    w: usize,
+    cells: &[u8; 12288],
+    ord: &[u16; 16384],
+    par: &[u16; 16384],
+    refs: &[u16; 16384],
+    go: &[u16; 1024],
+    place: &[u16; 1024],
+    within: &[u16; 1024],
+    pre: &[u8; 16896],
+    len: &[u16; 64],
+    total: usize,
+    out: &mut [u8],
+)
+    requires { ⌜ Writing (record { width = w; bytes = now s }) (now cells) (now ord) (now par) (now refs) (now go) (now place) (now within) (now pre) (now len) total × (flatLength w * length (survivors (record { width = w; bytes = now s })) ≤ length (now out)) ⌝ }
+    ensures { λ _. ⌜ now (out .exit) ≡ flat (record { width = w; bytes = now (s .entry) }) ++ drop (length (flat (record { width = w; bytes = now (s .entry) }))) (now (out .entry)) ⌝ }
+{
+    let mut e = 0;
+    let mut p = 0usize;
+    while e < total {
+        if gone_at(s, w, cells, ord, par, place, e) {
+            e += 1;
+        } else {
+            put_record(s, w, ord, par, refs, go, place, within, pre, len, e, out, p);
+            p += 15 * w + 25;
+            e += 1;
+        }
+    }
 }
