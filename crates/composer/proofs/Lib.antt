@@ -10,3 +10,6 @@ pub mod Printed
 pub mod ByNumber
 pub mod Fields
 pub mod Writing
+pub mod Joining
+pub mod Handed
+pub mod Closed

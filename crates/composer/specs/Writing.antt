@@ -10,12 +10,13 @@ use Rattle.names.specs.Lists.{In}
 use Rattle.recipe.specs.Definitions.{elementIn, holder}
 use Rattle.recipe.specs.Reading.{fault₅}
 use Rattle.recipe.specs.Records.{Recipe, isElement, parentField, places, referenceField}
-use Rattle.tree.specs.Numbers.{number, order}
+use Rattle.tree.specs.Numbers.{Instances, number, order}
 use Rattle.tree.specs.Tree.{Node, node, treeElements}
 use Rattle.marks.specs.Elements.{Elements}
 use Rattle.marks.specs.Gone.{Marked}
 use Rattle.marks.specs.Steps.{StepsAre}
-use Rattle.flat_names.specs.Rows.{Naming, Prefixed}
+use Rattle.flat_names.specs.Rows.{Naming, Prefixed, Tables}
+use Rattle.composer.specs.Verdicts.{Unrefused}
 
 -- "in tree order": the element of number e
 unfoldable pub elementAt : Recipe → ℕ → Node
@@ -57,3 +58,15 @@ pub record Writing (s : Recipe) (cells ord par refs go place within pre len : Li
   pub references : ReferencesAre s refs
   pub steps : StepsAre s go
   pub count : total ≡ length (treeElements s)
+
+-- rows 1 to 12 do not apply, and what judging them leaves to the room and the writer
+pub record Judged (s : Recipe) (hold model par refs ord inst place within cells go : List ℕ) (insts elems : ℕ) : Type 0 where
+  pub unrefused : Unrefused s
+  pub naming : Naming s
+  pub tables : Tables s hold model
+  pub tree : Instances s inst insts
+  pub elements : Elements s place within
+  pub marked : Marked s cells ord par
+  pub references : ReferencesAre s refs
+  pub steps : StepsAre s go
+  pub count : elems ≡ length (treeElements s)

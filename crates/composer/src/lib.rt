@@ -1,5 +1,5 @@
-// Flattening: the flat table of a recipe that no row refuses, written from the tables of the floors below.
-// For flatten: count_survivors, write_table. They take the name width w, and the tables.
+// Flattening: a recipe's answer, and its flat table, written from the tables of the floors below.
+// Public calls, which require nothing: flatten; bandrolt_flatten, the same exported to C.
 ghost use mathlib.Core.Path.{_≡_};
 ghost use mathlib.Core.Option.{some};
 ghost use mathlib.Core.List.{_++_};
@@ -12,7 +12,9 @@ ghost use Rattle.tree.specs.Tree.{treeElements, parentOf};
 ghost use Rattle.marks.specs.Gone.{Marked};
 ghost use Rattle.marks.specs.Marks.{isGone, survivors};
 ghost use Rattle.composer.specs.Flat.{flatField, flatReference, flatRecord, flat};
-ghost use Rattle.composer.specs.Writing.{elementAt, PlacesAre, ParentsAre, Named, Referring, Writing};
+ghost use Rattle.reading.specs.Tables.{Tables};
+ghost use Rattle.composer.specs.Verdicts.{recipeOf, refused, verdict, written};
+ghost use Rattle.composer.specs.Writing.{elementAt, PlacesAre, ParentsAre, Named, Referring, Writing, Judged};
 
 // Flattening's answer: 0, or the number and place of the refusal; the records and bytes written.
 #[repr(C)]
@@ -210,4 +212,185 @@ fn write_table(
             e += 1;
         }
     }
+}
+
+// A refusal's answer.
+fn refusal(number: u64, place: u64) -> Answer
+    ensures { λ r. ⌜ r ≡ refused number place ⌝ }
+{
+    Answer {
+        number: number,
+        place: place,
+        count: 0,
+        bytes: 0,
+    }
+}
+
+// Row 13, of a recipe that no other row refuses; where it does not apply, the flat table.
+fn flatten_judged(
+    s: &[u8],
+    w: usize,
+    hold: &[u16; 16384],
+    model: &[u16; 16384],
+    par: &[u16; 16384],
+    refs: &[u16; 16384],
+    ord: &[u16; 16384],
+    inst: &[u16; 320],
+    place: &[u16; 1024],
+    within: &[u16; 1024],
+    cells: &[u8; 12288],
+    go: &[u16; 1024],
+    insts: usize,
+    elems: usize,
+    table: &mut [u8],
+) -> Answer
+    requires { ⌜ Judged (record { width = w; bytes = now s }) (now hold) (now model) (now par) (now refs) (now ord) (now inst) (now place) (now within) (now cells) (now go) insts elems ⌝ }
+    ensures { λ r. ⌜ (r ≡ verdict (record { width = w; bytes = now (s .entry) }) (length (now (table .entry)))) × (now (table .exit) ≡ written (record { width = w; bytes = now (s .entry) }) (now (table .entry))) ⌝ }
+{
+    let n = count_survivors(s, w, cells, ord, par, place, elems);
+    let bytes = n * (15 * w + 25);
+    if table.len() < bytes {
+        return refusal(13, 0);
+    }
+    let mut pre = [0u8; 16896];
+    let mut len = [0u16; 64];
+    flat_names::fill_prefixes(s, w, hold, model, inst, insts, &mut pre, &mut len);
+    write_table(
+        s,
+        w,
+        cells,
+        ord,
+        par,
+        refs,
+        go,
+        place,
+        within,
+        &pre,
+        &len,
+        elems,
+        table,
+    );
+    Answer {
+        number: 0,
+        place: 0,
+        count: n as u64,
+        bytes: bytes as u64,
+    }
+}
+
+// Rows 7 to 13 of a recipe that rows 1 to 6 let pass, and its flat table.
+fn flatten_read(
+    s: &[u8],
+    w: usize,
+    hold: &[u16; 16384],
+    model: &[u16; 16384],
+    height: &[u16; 16384],
+    own: &[u16; 16384],
+    sub: &[u16; 16384],
+    par: &[u16; 16384],
+    refs: &[u16; 16384],
+    nxt: &[u16; 16384],
+    table: &mut [u8],
+) -> Answer
+    requires { ⌜ Tables (record { width = w; bytes = now s }) (now hold) (now model) (now height) (now own) (now sub) (now par) (now refs) (now nxt) ⌝ }
+    ensures { λ r. ⌜ (r ≡ verdict (record { width = w; bytes = now (s .entry) }) (length (now (table .entry)))) × (now (table .exit) ≡ written (record { width = w; bytes = now (s .entry) }) (now (table .entry))) ⌝ }
+{
+    let mut ord = [0u16; 16384];
+    let mut inst = [0u16; 320];
+    let mut place = [0u16; 1024];
+    let mut within = [0u16; 1024];
+    let mut cells = [0u8; 12288];
+    let mut go = [0u16; 1024];
+    let j = judging::judge_tree(
+        s,
+        w,
+        hold,
+        model,
+        height,
+        own,
+        sub,
+        par,
+        refs,
+        nxt,
+        &mut ord,
+        &mut inst,
+        &mut place,
+        &mut within,
+        &mut cells,
+        &mut go,
+    );
+    let number = j.number;
+    let at = j.place;
+    let insts = j.insts;
+    let elems = j.elems;
+    if number != 0 {
+        return refusal(number, at);
+    }
+    flatten_judged(
+        s,
+        w,
+        hold,
+        model,
+        par,
+        refs,
+        &ord,
+        &inst,
+        &place,
+        &within,
+        &cells,
+        &go,
+        insts,
+        elems,
+        table,
+    )
+}
+
+// 01's flattening of a recipe of name width 12: the answer, and the flat table; on a refusal the table as it was.
+pub fn flatten(recipe: &[u8], table: &mut [u8]) -> Answer
+    ensures { λ r. ⌜ (r ≡ verdict (recipeOf (now (recipe .entry))) (length (now (table .entry)))) × (now (table .exit) ≡ written (recipeOf (now (recipe .entry))) (now (table .entry))) ⌝ }
+{
+    let mut hold = [0u16; 16384];
+    let mut model = [0u16; 16384];
+    let mut height = [0u16; 16384];
+    let mut own = [0u16; 16384];
+    let mut sub = [0u16; 16384];
+    let mut par = [0u16; 16384];
+    let mut refs = [0u16; 16384];
+    let mut nxt = [0u16; 16384];
+    let a = reading::read_tables(
+        recipe,
+        12,
+        &mut hold,
+        &mut model,
+        &mut height,
+        &mut own,
+        &mut sub,
+        &mut par,
+        &mut refs,
+        &mut nxt,
+    );
+    if a.number != 0 {
+        return refusal(a.number, a.place);
+    }
+    flatten_read(
+        recipe,
+        12,
+        &hold,
+        &model,
+        &height,
+        &own,
+        &sub,
+        &par,
+        &refs,
+        &nxt,
+        table,
+    )
+}
+
+// The same, for C.
+#[no_mangle]
+pub extern "C" fn bandrolt_flatten(recipe: &[u8], table: &mut [u8]) -> Answer
+    ensures { λ r. ⌜ (r ≡ verdict (recipeOf (now (recipe .entry))) (length (now (table .entry)))) × (now (table .exit) ≡ written (recipeOf (now (recipe .entry))) (now (table .entry))) ⌝ }
+{
+    flatten(recipe, table)
 }
