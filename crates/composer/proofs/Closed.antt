@@ -3,9 +3,12 @@
 use mathlib.Core.Path.{_≡_, sym, ap, _∙_}
 use Prim.Native.Nat.{ℕ, _*_, _≤_}
 use native.Mathlib.Omega.{arith}
-use mathlib.Core.List.{List, _++_}
+use mathlib.Core.Bool.{true, _&&_}
+use mathlib.Core.List.{List}
 use lib.ListN.{length, take, drop}
 use lib.Seq.{take-at}
+use lib.Dec.{eqb}
+use borrow.Author.Tests.{eq-eqb}
 use Rattle.flat_table.specs.Table.{flatLength, tableVerdict}
 use Rattle.flat_table.specs.declared.TableAnswer.{TableAnswer}
 use Rattle.recipe.specs.Records.{Recipe}
@@ -15,6 +18,14 @@ use Rattle.composer.specs.Flat.{flat}
 use Rattle.composer.specs.Verdicts.{Unrefused, accepted, verdict, written}
 use Rattle.composer.proofs.Promises.{promises}
 use Rattle.composer.proofs.Verdicts.{accepts, enough-room, unrefused, written-length, written-table}
+
+-- names of 01's width are long enough
+pub twelve : 2 ≤ 12
+twelve = omega arith
+
+-- both numbers are as they should be
+pub both-hold : {a b c : ℕ} → a ≡ 0 → b ≡ c → eqb a 0 && eqb b c ≡ true
+both-hold {a} {b} {c} e f = rw (eq-eqb a 0 e, eq-eqb b c f)
 
 -- flattening s into the output `before` answers a and leaves `after`
 module _ (s : Recipe) (two : 2 ≤ s .width) (before after : List ℕ) (a : Answer) (answers : a ≡ verdict s (length before)) (leaves : after ≡ written s before) where
@@ -52,9 +63,9 @@ module _ (s : Recipe) (two : 2 ≤ s .width) (before after : List ℕ) (a : Answ
     table-is = rw (leaves, written-table s before number-is) (take-at (flat s) (drop (length (flat s)) before) (a .bytes) (sym bytes-are))
 
     -- the table check answers c of them
-    module _ (c : TableAnswer) (checks : c ≡ tableVerdict (s .width) (take (a .bytes) after)) where
+    module _ (c : TableAnswer) (n : ℕ) (checks : c ≡ tableVerdict (s .width) (take n after)) (n-is : n ≡ a .bytes) where
       check-is : c ≡ record { number = 0; place = 0; count = length (survivors s) }
-      check-is = checks ∙ (ap (tableVerdict (s .width)) table-is ∙ promises s two clear .closed)
+      check-is = checks ∙ (ap (λ (k : ℕ). tableVerdict (s .width) (take k after)) n-is ∙ (ap (tableVerdict (s .width)) table-is ∙ promises s two clear .closed))
 
       pub check-accepts : c .number ≡ 0
       check-accepts = ap (λ (x : TableAnswer). x .number) check-is

@@ -9,7 +9,7 @@ use native.Mathlib.Omega.{arith}
 use native.Mathlib.Nat.{mul-comm}
 use lib.Dec.{eqb}
 use lib.ListN.{length, drop}
-use borrow.Author.Tests.{eq-eqb, ne-eqb}
+use borrow.Author.Tests.{ne-eqb}
 use Rattle.flat_table.specs.Table.{flatLength, flatWidth}
 use Rattle.recipe.specs.Records.{Recipe}
 use Rattle.recipe.specs.Reading.{fault₁, fault₂, fault₃, fault₄, fault₅, fault₆}

@@ -1,6 +1,7 @@
 // Flattening: a recipe's answer, and its flat table, written from the tables of the floors below.
-// Public calls, which require nothing: flatten; bandrolt_flatten, the same exported to C.
+// Public calls, which require nothing: flatten; bandrolt_flatten, the same exported to C; flatten_and_check.
 ghost use mathlib.Core.Path.{_≡_};
+ghost use mathlib.Core.Bool.{true};
 ghost use mathlib.Core.Option.{some};
 ghost use mathlib.Core.List.{_++_};
 ghost use Prim.Native.Nat.{_+_, _-_, _*_, _<_, _≤_};
@@ -393,4 +394,17 @@ pub extern "C" fn bandrolt_flatten(recipe: &[u8], table: &mut [u8]) -> Answer
     ensures { λ r. ⌜ (r ≡ verdict (recipeOf (now (recipe .entry))) (length (now (table .entry)))) × (now (table .exit) ≡ written (recipeOf (now (recipe .entry))) (now (table .entry))) ⌝ }
 {
     flatten(recipe, table)
+}
+
+// Flattens, and lets the table check look at what that wrote: it accepts, with the same count, whatever the recipe.
+pub fn flatten_and_check(recipe: &[u8], table: &mut [u8]) -> bool
+    ensures { λ r. ⌜ (r ≡ true) × (now (table .exit) ≡ written (recipeOf (now (recipe .entry))) (now (table .entry))) ⌝ }
+{
+    let a = flatten(recipe, table);
+    if a.number != 0 {
+        return true;
+    }
+    let n = a.bytes as usize;
+    let c = flat_table::bandrolt_check_table(&table[0..n]);
+    (c.number == 0) & (c.count == a.count)
 }
