@@ -1,0 +1,108 @@
+-- What flattening answers and writes, printed: the program's output.
+-- Assumes nothing.
+use mathlib.Core.Path.{_≡_, sym, ap, _∙_}
+use Prim.Native.Nat.{ℕ, _*_, _≤_}
+use native.Mathlib.Omega.{arith}
+use mathlib.Core.Option.{Option, none, some}
+use mathlib.Core.List.{List}
+use lib.ListN.{length, take, drop}
+use lib.Dec.{eqb}
+use lib.Seq.{take-at, take-all, length-take-le}
+use borrow.Author.Tests.{eqb-true, ltb-false}
+use Rattle.names.proofs.Tests.{by-cases, by-option}
+use Rattle.flat_table.specs.Table.{flatLength}
+use Rattle.recipe.specs.Records.{Recipe}
+use Rattle.recipe.specs.Reading.{fault₁, fault₂, fault₃, fault₄, fault₅, fault₆}
+use Rattle.recipe.proofs.Rows.{not-at-start}
+use Rattle.tree.specs.Faults.{fault₇, fault₈, fault₁₀}
+use Rattle.marks.specs.Marks.{survivors}
+use Rattle.marks.specs.Faults.{fault₉, fault₁₁, fault₁₂}
+use Rattle.composer.specs.declared.Answer.{Answer}
+use Rattle.composer.specs.Flat.{flat}
+use Rattle.composer.specs.Verdicts.{nameWidth, recipeOf, fault₁₃, accepted, refused, judge, judged, verdict, written}
+use Rattle.composer.specs.Printed.{printedOf, printed, inputRoom, outputRoom, programOutput}
+use Rattle.composer.proofs.Verdicts.{unrefused, enough-room, accepts, written-table, written-length}
+use Rattle.composer.proofs.Lengths.{flat-bytes}
+use Rattle.bandrolt.specs.Text.{Stands}
+use Rattle.bandrolt.proofs.Texts.{stands-length}
+
+-- a refusal's bytes are none
+judge-bytes : (n : ℕ) (o : Option ℕ) (a : Answer) (m : ℕ) → a .bytes ≤ m → judge n o a .bytes ≤ m
+unfolding judge refused
+judge-bytes n none a m h = h
+judge-bytes n (some p) a m h = omega arith
+
+room-bytes : (s : Recipe) (room : ℕ) → judge 13 (fault₁₃ s room) (accepted (s .width) (length (survivors s))) .bytes ≤ room
+unfolding judge refused accepted fault₁₃
+room-bytes s room =
+    by-option (fault₁₃ s room)
+    (λ e. rw e (ltb-false room (flatLength (s .width) * length (survivors s)) (not-at-start _ e)))
+    (λ p e. rw e (omega arith))
+
+-- no more bytes are told than were lent
+pub bytes-within : (s : Recipe) (room : ℕ) → verdict s room .bytes ≤ room
+unfolding verdict judged
+bytes-within s room =
+    judge-bytes 1 (fault₁ s) _ room
+    (judge-bytes 2 (fault₂ s) _ room
+    (judge-bytes 3 (fault₃ s) _ room
+    (judge-bytes 4 (fault₄ s) _ room
+    (judge-bytes 5 (fault₅ s) _ room
+    (judge-bytes 6 (fault₆ s) _ room
+    (judge-bytes 7 (fault₇ s) _ room
+    (judge-bytes 8 (fault₈ s) _ room
+    (judge-bytes 9 (fault₉ s) _ room
+    (judge-bytes 10 (fault₁₀ s) _ room
+    (judge-bytes 11 (fault₁₁ s) _ room
+    (judge-bytes 12 (fault₁₂ s) _ room (room-bytes s room))))))))))))
+
+module _ (s : Recipe) (two : 2 ≤ s .width) (out : List ℕ) where
+  -- the bytes told of are the flat table
+  written-bytes : verdict s (length out) .number ≡ 0 → take (verdict s (length out) .bytes) (written s out) ≡ flat s
+  unfolding accepted
+  written-bytes e =
+      let h = unrefused s (length out) e in
+      let fits = enough-room s (length out) e in
+      let long = flat-bytes s two (h .row₃) (h .row₇) (h .row₅) in
+      rw (written-table s out e, accepts s (length out) h fits) (take-at (flat s) (drop (length (flat s)) out) (flatLength (s .width) * length (survivors s)) long)
+
+  -- what is printed of them is what is printed of the recipe
+  pub printed-bytes : printedOf (s .width) (verdict s (length out)) (take (verdict s (length out) .bytes) (written s out)) ≡ printed s (length out)
+  unfolding printed printedOf
+  printed-bytes =
+      by-cases (eqb (verdict s (length out) .number) 0)
+      (λ b. ap (λ (t : List ℕ). printedOf (s .width) (verdict s (length out)) t) (written-bytes (eqb-true (verdict s (length out) .number) 0 b)))
+      (λ b. rw b)
+
+module _ (input out : List ℕ) {a : Answer} {out′ : List ℕ} (e : a ≡ verdict (recipeOf input) (length out)) (w : out′ ≡ written (recipeOf input) out) where
+  pub told-within : a .bytes ≤ length out′
+  unfolding recipeOf nameWidth
+  told-within = rw (e, w, written-length (recipeOf input) (omega arith) out) (bytes-within (recipeOf input) (length out))
+
+  pub told-bytes : a .bytes ≡ length (take (a .bytes) out′)
+  told-bytes = sym (length-take-le (a .bytes) out′ told-within)
+
+  pub told-room : length out ≡ 65395 → length (take (a .bytes) out′) ≤ 65395
+  told-room l = omega (arith, told-bytes, ap (λ (x : Answer). x .bytes) e, bytes-within (recipeOf input) (length out))
+
+-- what stands at the start of a text is the text up to its end
+text-is : {xs text text′ : List ℕ} {end : ℕ} → Stands xs text 0 text′ end → take end text′ ≡ xs
+text-is {xs} {text} {text′} {end} s = rw (s .bytes) (take-at xs (drop end text) end (omega arith))
+
+-- the whole: the input was read, the output lent, and the text holds what the program writes
+pub output-stands : (input out : List ℕ) {a : Answer} {out′ text text′ : List ℕ} {end : ℕ}
+    → length input ≤ 16385 → length out ≡ 65395 → a ≡ verdict (recipeOf input) (length out) → out′ ≡ written (recipeOf input) out
+    → Stands (printedOf nameWidth a (take (a .bytes) out′)) text 0 text′ end
+    → ((end ≤ length text′) × (end ≡ length (take end text′))) × (take end text′ ≡ programOutput input)
+unfolding programOutput inputRoom outputRoom recipeOf nameWidth
+output-stands input out {a} {out′} {text} {text′} {end} h l e w s =
+    let told = text-is s in
+    let whole : take 16385 input ≡ input = take-all 16385 input h in
+    let all = printed-bytes (recipeOf input) (omega arith) out in (
+      (omega (arith, stands-length s), omega (arith, ap length told)),
+      told ∙ rw (whole, w, e, all, l),
+    )
+
+-- what was read is no longer than what was lent to read it
+pub read-within : (n : ℕ) (xs ys : List ℕ) → length xs ≡ length ys → length ys ≡ 16385 → (n ≤ length xs) × (n ≡ length (take n xs)) → length (take n xs) ≤ 16385
+read-within n xs ys e l c = omega arith
