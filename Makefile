@@ -1,13 +1,22 @@
 # Bandrolt: run it, test it, measure it. What each target needs is said if it is missing.
-LIBRARIES = flat_table reading
+LIBRARIES = composer flat_table reading
+ARCHIVES = $(LIBRARIES:%=target/staticlib/lib%.a)
+PROGRAM = target/bin/bandrolt
+SOURCES = crates.txt $(shell find crates -name '*.rt' -o -name '*.antt')
 BUILD = harness/target
 CC_FLAGS = -std=c11 -Wall -Wextra -Werror -O2 -Iinclude
 CARGO = cargo run --quiet --offline --release --manifest-path harness/Cargo.toml --bin
 
-# Checks the flat table of document 01's sample R, or of TABLE=file, as the solver would.
+# Flattens document 01's sample R, or RECIPE=file in the text form of examples/, and prints the table.
+RECIPE = examples/sample-r.recipe
+run: lib $(PROGRAM)
+	@$(CARGO) recipes encode $(RECIPE) > target/recipe
+	@$(PROGRAM) < target/recipe
+
+# Checks the flat table of sample R, or the bytes of TABLE=file, as the solver would.
 TABLE = examples/sample-r.table
-run: $(BUILD)/solver
-	$(BUILD)/solver $(TABLE)
+table: $(BUILD)/solver
+	@$(BUILD)/solver table $(TABLE)
 
 # The whole gate; its last line is 'N passed, M failed'.
 test: tools-there
@@ -18,23 +27,37 @@ bench: lib
 	@$(CARGO) bench
 	@$(CARGO) bench_recipes
 
-# The static libraries, target/staticlib/lib*.a.
-lib: tools-there
-	@for name in $(LIBRARIES); do rt staticlib $$name > target/lib.log 2>&1 || { cat target/lib.log; exit 1; }; done
+# The static libraries, target/staticlib/lib*.a. Making one proves its crate again, so it is done once.
+lib: $(ARCHIVES)
+
+$(ARCHIVES): target/staticlib/lib%.a: $(SOURCES) | tools-there
+	@rt staticlib $* > target/lib.log 2>&1 || { cat target/lib.log; exit 1; }
+
+# The printing program.
+$(PROGRAM): $(SOURCES) | tools-there
+	@rt check bandrolt > target/program.log 2>&1 || { cat target/program.log; exit 1; }
 
 # The programs that the gate runs beside rt ci; each ends with 'N passed, M failed'.
 compare recipes: %: lib
 	@$(CARGO) $@
 
+program: lib $(PROGRAM)
+	@$(CARGO) program $(PROGRAM)
+
+# Few recipes under valgrind: no call reads or writes what it was not lent, nor goes by a byte that nobody wrote.
+memory: lib
+	@command -v valgrind > /dev/null || { echo "bandrolt's memory test needs valgrind, which is not on this machine's PATH"; exit 1; }
+	@CARGO_TARGET_X86_64_UNKNOWN_LINUX_GNU_RUNNER="valgrind --quiet --error-exitcode=9" $(CARGO) recipes few
+
 solver stack: %: $(BUILD)/%
 	@$(BUILD)/$@
 
-$(BUILD)/%: harness/c/%.c include/bandrolt.h lib
+$(BUILD)/%: harness/c/%.c harness/c/recipe.h include/bandrolt.h $(ARCHIVES)
 	@mkdir -p $(BUILD)
-	@gcc $(CC_FLAGS) $< $(LIBRARIES:%=target/staticlib/lib%.a) -pthread -o $@
+	@gcc $(CC_FLAGS) $< $(ARCHIVES) -pthread -o $@
 
 tools-there:
 	@for tool in rt gcc cargo; do command -v $$tool > /dev/null || { echo "bandrolt needs $$tool, which is not on this machine's PATH"; exit 1; }; done
 	@mkdir -p target
 
-.PHONY: run test bench lib compare recipes solver stack tools-there
+.PHONY: run table test bench lib compare recipes program memory solver stack tools-there

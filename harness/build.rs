@@ -3,7 +3,7 @@
 
 use std::{env, path::Path};
 
-const ARCHIVES: [&str; 2] = ["flat_table", "reading"];
+const ARCHIVES: [&str; 3] = ["composer", "flat_table", "reading"];
 
 fn main() {
     println!("cargo:rerun-if-env-changed=BANDROLT_LIB");

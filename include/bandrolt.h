@@ -1,5 +1,5 @@
-/* Bandrolt's calls, for C99 and C++; link with libflat_table.a and libreading.a.
-   They tell whether a flat table is closed, and whether a recipe reads, as document 01 says it. */
+/* Bandrolt's calls, for C99 and C++; link with libcomposer.a, libflat_table.a and libreading.a.
+   They flatten a recipe, tell whether a flat table is closed, and whether a recipe reads, as document 01 says it. */
 
 #ifndef BANDROLT_H
 #define BANDROLT_H
@@ -72,6 +72,39 @@ typedef struct bandrolt_read_answer {
 #define BANDROLT_READ_RECIPE_STACK 262144
 
 bandrolt_read_answer bandrolt_read_recipe(const uint8_t *recipe, size_t length);
+
+typedef struct bandrolt_answer {
+    uint64_t number; /* 0 for an accepted recipe, or else 1 to 13 */
+    uint64_t place;  /* offset of the record at fault, or 0 */
+    uint64_t count;  /* number of flat records, or 0 for a refusal */
+    uint64_t bytes;  /* what they take of the table: 205 for each */
+} bandrolt_answer;
+
+/* Flattens the `length` bytes at `recipe` into the `room` bytes at `table`.
+
+   An accepted recipe gives number 0, place 0, the number of flat records and their bytes; the records stand at the
+   beginning of `table`, in the order of the tree, and bandrolt_check_table finds them closed, with the same count.
+   The bytes after them are unchanged. 209,920 bytes of room suffice for every recipe.
+
+   Any other recipe gives both counts 0, an unchanged `table`, and the lowest of these numbers that applies, with its
+   lowest place:
+
+     1 to 6: as bandrolt_read_recipe says;
+     7, at 0: there are over 64 instances with main, or over 1,024 elements in the tree, or it is over 4 deep;
+     8, at a port or mark: its target doesn't exist, in any definition;
+     9, at a record: it conflicts with an earlier one, somewhere in the tree;
+    10, at a mark: its owner and its target have different classes, in any definition;
+    11, at a replaced-by: its target is gone;
+    12, at an element: it survives, and its reference is against its class, names no element of its definition,
+        or leads to one that is gone or of a wrong class;
+    13, at 0: `room` is less than 205 for each flat record.
+
+   The call reads the recipe alone, writes within `table` alone, ends on all input, keeps no state and allocates
+   nothing. The two must not overlap; each may be null only with length 0. It needs less than
+   BANDROLT_FLATTEN_STACK bytes of stack. */
+#define BANDROLT_FLATTEN_STACK 524288
+
+bandrolt_answer bandrolt_flatten(const uint8_t *recipe, size_t length, uint8_t *table, size_t room);
 
 #ifdef __cplusplus
 }

@@ -1,12 +1,12 @@
 #!/usr/bin/env bash
 # The gate: layout, proofs and must-fail edits, then every program beside them, from nothing.
-# Each step ends with 'N passed, M failed'; the last line adds them up, and says no where a step did.
+# Each step says 'N passed, M failed'; the last line adds them up, and says no where a step did.
 set -u -o pipefail
 cd "$(dirname "$0")/.."
 passed=0
 failed=0
 
-# step WHAT COMMAND..: runs the command, shows what it prints, and counts its last line.
+# step WHAT COMMAND..: runs the command, shows what it prints, and counts its last verdict; a status other than 0 fails.
 step() {
     local what=$1 output status last
     shift
@@ -14,7 +14,7 @@ step() {
     echo "== $what"
     "$@" 2>&1 | tee "$output"
     status=$?
-    last=$(tail -n 1 "$output")
+    last=$(grep -E '^[0-9]+ passed, [0-9]+ failed$' "$output" | tail -n 1)
     rm -f "$output"
     if [[ $last =~ ^([0-9]+)\ passed,\ ([0-9]+)\ failed$ ]]; then
         passed=$((passed + BASH_REMATCH[1]))
@@ -37,6 +37,8 @@ step "layout" layout
 step "proofs and must-fail edits" rt ci
 step "tables: the other program" make --no-print-directory compare
 step "recipes: the other program" make --no-print-directory recipes
+step "recipes: memory" make --no-print-directory memory
+step "the printing program" make --no-print-directory program
 step "the solver, in C" make --no-print-directory solver
 step "stack" make --no-print-directory stack
 echo "$passed passed, $failed failed"

@@ -1,14 +1,16 @@
-/* Plays the solver: builds tables in memory and hands them to the table check.
-   `solver` compares the answers with 01's; `solver FILE` checks a file, status 1 if refused. */
+/* Plays the solver: has recipes flattened and the tables checked, and hands tables of its own to the check.
+   `solver` compares the answers with 01's; `solver recipe FILE` flattens the bytes of a recipe and checks the table,
+   `solver table FILE` checks a table; both have status 1 if it is refused. */
 
 #include "bandrolt.h"
+#include "recipe.h"
 
 #include <inttypes.h>
 #include <stdio.h>
 #include <stdlib.h>
 #include <string.h>
 
-enum { FIELD = 68, RECORD = 205, MAX_RECORDS = 1024 };
+enum { FIELD = 68, RECORD = 205, MAX_RECORDS = 1024, PATTERN = 0xA5 };
 
 static int passed, failed;
 
@@ -105,6 +107,63 @@ static void check_own_tables(void)
     free(table);
 }
 
+/* Flattens into `room` bytes and checks the table, which must be `table` where the recipe is accepted. */
+static void expect_flat(const char *what, const recipe *r, size_t room, uint64_t number, uint64_t place,
+                        const uint8_t *table, uint64_t count)
+{
+    /* Blocks with no byte to spare, as above. */
+    uint8_t *given = r->length > 0 ? allocate(r->length) : NULL;
+    uint8_t *output = room > 0 ? allocate(room) : NULL;
+    size_t bytes = (size_t)count * RECORD;
+    int holds;
+
+    if (given != NULL) memcpy(given, r->bytes, r->length);
+    if (output != NULL) memset(output, PATTERN, room);
+    bandrolt_answer answer = bandrolt_flatten(given, r->length, output, room);
+    holds = answer.number == number && answer.place == place && answer.count == count && answer.bytes == bytes;
+    holds = holds && (given == NULL || memcmp(given, r->bytes, r->length) == 0);
+    holds = holds && (bytes == 0 || memcmp(output, table, bytes) == 0);
+    for (size_t i = bytes; i < room; i++) {
+        holds = holds && output[i] == PATTERN;
+    }
+    bandrolt_table_answer check = bandrolt_check_table(output, holds ? bytes : 0);
+    holds = holds && check.number == 0 && check.place == 0 && check.count == count;
+    free(given);
+    free(output);
+
+    if (holds) {
+        passed++;
+    } else {
+        failed++;
+        printf("FAILED: %s: number %" PRIu64 ", place %" PRIu64 ", count %" PRIu64 ", bytes %" PRIu64 "\n", what,
+               answer.number, answer.place, answer.count, answer.bytes);
+    }
+}
+
+static void flatten_own_recipes(void)
+{
+    static const recipe empty;
+    static recipe only_top, sample_r, deletion;
+    uint8_t table[2 * RECORD];
+
+    put_model(&only_top, "top");
+    put_sample_r(&sample_r);
+    put_model(&deletion, "top");
+    put_element(&deletion, "c", 1, "", "");
+    put_submodel(&deletion, "a", "cell");
+    put_deletion(&deletion, "a", 0, "v");
+    put_cell(&deletion);
+    put(table, 0, 1, "c", "", "");
+    put(table, 1, 2, "a__s", "", "c");
+
+    expect_flat("nothing, into nothing", &empty, 0, 1, 0, NULL, 0);
+    expect_flat("only model top, into nothing", &only_top, 0, 0, 0, NULL, 0);
+    expect_flat("sample R, into 410 bytes", &sample_r, 2 * RECORD, 0, 0, table, 2);
+    expect_flat("sample R, into 409 bytes", &sample_r, 2 * RECORD - 1, 13, 0, NULL, 0);
+    expect_flat("sample R, into 1,000 bytes", &sample_r, 1000, 0, 0, table, 2);
+    expect_flat("sample R with a deletion", &deletion, 1000, 12, 153, NULL, 0);
+}
+
 /* Reads a whole file into a block of its length, or null for an empty one. */
 static uint8_t *read_file(const char *path, size_t *length)
 {
@@ -128,12 +187,9 @@ static uint8_t *read_file(const char *path, size_t *length)
     return bytes;
 }
 
-static int check_file(const char *path)
+/* Says what the check answers; the status comes back. */
+static int report(bandrolt_table_answer answer)
 {
-    size_t length;
-    uint8_t *table = read_file(path, &length);
-    bandrolt_table_answer answer = bandrolt_check_table(table, length);
-    free(table);
     if (answer.number == 0) {
         printf("closed, %" PRIu64 " records\n", answer.count);
         return 0;
@@ -142,12 +198,44 @@ static int check_file(const char *path)
     return 1;
 }
 
+static int check_table(const char *path)
+{
+    size_t length;
+    uint8_t *table = read_file(path, &length);
+    bandrolt_table_answer answer = bandrolt_check_table(table, length);
+    free(table);
+    return report(answer);
+}
+
+static int load_recipe(const char *path)
+{
+    size_t length;
+    uint8_t *bytes = read_file(path, &length);
+    uint8_t *table = allocate(MAX_RECORDS * RECORD);
+    bandrolt_answer answer = bandrolt_flatten(bytes, length, table, MAX_RECORDS * RECORD);
+    bandrolt_table_answer said = { answer.number, answer.place, 0 };
+    if (answer.number == 0) {
+        said = bandrolt_check_table(table, answer.bytes);
+    }
+    free(bytes);
+    free(table);
+    return report(said);
+}
+
 int main(int argc, char **argv)
 {
+    if (argc == 3 && strcmp(argv[1], "recipe") == 0) {
+        return load_recipe(argv[2]);
+    }
+    if (argc == 3 && strcmp(argv[1], "table") == 0) {
+        return check_table(argv[2]);
+    }
     if (argc > 1) {
-        return check_file(argv[1]);
+        fputs("usage: solver | solver recipe FILE | solver table FILE\n", stderr);
+        return 2;
     }
     check_own_tables();
+    flatten_own_recipes();
     printf("%d passed, %d failed\n", passed, failed);
     return failed > 0;
 }

@@ -8,10 +8,12 @@
 #include <string.h>
 
 #include "bandrolt.h"
+#include "recipe.h"
 
-enum { STACK = 1 << 20, PATTERN = 0xA5, RECORD = 205, MOST = 1024 };
+enum { STACK = 1 << 22, PATTERN = 0xA5, RECORD = 205, MOST = 1024, LEVELS = 215 };
 
-static uint8_t table[RECORD * MOST];
+static uint8_t table[RECORD * MOST], output[RECORD * MOST];
+static recipe cycle, ports, sample_r;
 
 /* Parameters p0000 to p1023, the later ones first: the most records, and none in order. */
 static void fill_table(void) {
@@ -21,9 +23,32 @@ static void fill_table(void) {
     }
 }
 
-/* Models m and n, each with a submodel of the other: they reach themselves, which is looked for last. */
-static const uint8_t recipe[76] = "\1m\0\0\0\0\0\0\0\0\0\0\0" "\4x\0\0\0\0\0\0\0\0\0\0\0n\0\0\0\0\0\0\0\0\0\0\0"
-                                  "\1n\0\0\0\0\0\0\0\0\0\0\0" "\4x\0\0\0\0\0\0\0\0\0\0\0m\0\0\0\0\0\0\0\0\0\0";
+/* The recipes that lead each part of a call deepest. */
+static void fill_recipes(void) {
+    char name[NAME], next[NAME];
+
+    /* Models that reach themselves, which is looked for last. */
+    put_model(&cycle, "m");
+    put_submodel(&cycle, "x", "n");
+    put_model(&cycle, "n");
+    put_submodel(&cycle, "x", "m");
+
+    /* The longest way from port to port that a recipe can hold. */
+    put_model(&ports, "top");
+    for (int i = 1; i < LEVELS; i++) {
+        snprintf(name, sizeof name, "m%d", i);
+        snprintf(next, sizeof next, "m%d", i + 1);
+        put_model(&ports, name);
+        put_submodel(&ports, "a", next);
+        put_port(&ports, "p", "a", 1, "p");
+    }
+    put_model(&ports, next);
+    put_element(&ports, "v", 1, "", "");
+    put_port(&ports, "p", "", 0, "v");
+
+    /* One that is accepted and written. */
+    put_sample_r(&sample_r);
+}
 
 static void *check_table(void *holds) {
     bandrolt_table_answer answer = bandrolt_check_table(table, sizeof table);
@@ -32,8 +57,18 @@ static void *check_table(void *holds) {
 }
 
 static void *read_recipe(void *holds) {
-    bandrolt_read_answer answer = bandrolt_read_recipe(recipe, sizeof recipe);
+    bandrolt_read_answer answer = bandrolt_read_recipe(cycle.bytes, cycle.length);
     *(int *)holds = answer.number == 6 && answer.place == 0;
+    return NULL;
+}
+
+static void *flatten(void *holds) {
+    bandrolt_answer answer = bandrolt_flatten(cycle.bytes, cycle.length, output, sizeof output);
+    *(int *)holds = answer.number == 6 && answer.place == 0;
+    answer = bandrolt_flatten(ports.bytes, ports.length, output, sizeof output);
+    *(int *)holds &= answer.number == 0 && answer.count == 0;
+    answer = bandrolt_flatten(sample_r.bytes, sample_r.length, output, sizeof output);
+    *(int *)holds &= answer.number == 0 && answer.count == 2;
     return NULL;
 }
 
@@ -70,8 +105,10 @@ int main(void) {
     int passed;
 
     fill_table();
+    fill_recipes();
     passed = measure("bandrolt_check_table", check_table, BANDROLT_CHECK_TABLE_STACK);
     passed += measure("bandrolt_read_recipe", read_recipe, BANDROLT_READ_RECIPE_STACK);
-    printf("%d passed, %d failed\n", passed, 2 - passed);
-    return passed != 2;
+    passed += measure("bandrolt_flatten", flatten, BANDROLT_FLATTEN_STACK);
+    printf("%d passed, %d failed\n", passed, 3 - passed);
+    return passed != 3;
 }

@@ -1,5 +1,18 @@
 //! The library's calls, made safe to call from Rust.
-//! This file uses nothing else of the harness: copy it into a program that links libflat_table.a and libreading.a.
+//! This file uses nothing else of the harness: copy it into a program that links libcomposer.a, libflat_table.a and libreading.a.
+
+/// What flattening answers, laid out as `bandrolt_answer` in bandrolt.h.
+///
+/// An accepted recipe has number 0, place 0, its number of flat records and their bytes; a refused one has
+/// its number, 1 to 13, the place of that, and both counts 0.
+#[repr(C)]
+#[derive(Clone, Copy, Debug, PartialEq, Eq)]
+pub struct Answer {
+    pub number: u64,
+    pub place: u64,
+    pub count: u64,
+    pub bytes: u64,
+}
 
 /// What the check answers, laid out as `bandrolt_table_answer` in bandrolt.h.
 ///
@@ -23,9 +36,32 @@ pub struct ReadAnswer {
 }
 
 mod c {
+    use super::{Answer, ReadAnswer, TableAnswer};
+
     extern "C" {
-        pub fn bandrolt_read_recipe(recipe: *const u8, length: usize) -> super::ReadAnswer;
-        pub fn bandrolt_check_table(table: *const u8, length: usize) -> super::TableAnswer;
+        pub fn bandrolt_flatten(
+            recipe: *const u8,
+            length: usize,
+            table: *mut u8,
+            room: usize,
+        ) -> Answer;
+        pub fn bandrolt_check_table(table: *const u8, length: usize) -> TableAnswer;
+        pub fn bandrolt_read_recipe(recipe: *const u8, length: usize) -> ReadAnswer;
+    }
+}
+
+/// Flattens a recipe, of any bytes and any length, into the beginning of `table`, of any length.
+/// A refusal leaves `table` as it is, and so does acceptance with the bytes after the flat records.
+pub fn flatten(recipe: &[u8], table: &mut [u8]) -> Answer {
+    // SAFETY: pointers and lengths are those of two slices that don't overlap; the call reads the first,
+    // writes within the second, and keeps neither.
+    unsafe {
+        c::bandrolt_flatten(
+            recipe.as_ptr(),
+            recipe.len(),
+            table.as_mut_ptr(),
+            table.len(),
+        )
     }
 }
 

@@ -5,14 +5,12 @@ use harness::bandrolt::{check_table, TableAnswer};
 use harness::other::table;
 use harness::random::Random;
 use harness::tables::{closed, encode, Links, Names, MAX_RECORDS};
-use harness::timing::times;
+use harness::timing::{print_head, print_series, Pair};
 
 const ROWS: [usize; 4] = [1, 10, 100, MAX_RECORDS];
 const TABLES: u64 = 8;
 
-type Check = fn(&[u8]) -> TableAnswer;
-
-const PROGRAMS: [Check; 2] = [check_table, |table| table::check(table).into()];
+const PROGRAMS: Pair<fn(&[u8]) -> TableAnswer> = [check_table, |table| table::check(table).into()];
 
 struct Family {
     what: &'static str,
@@ -44,31 +42,12 @@ const FAMILIES: [Family; 7] = [
 ];
 
 fn main() {
-    println!(
-        "{:<26}{:>6}{:>12}{:>12}{:>8}",
-        "names", "rows", "ours, us", "other, us", "ratio"
-    );
-    let mut growth = Vec::new();
+    print_head("tables, names");
     for family in &FAMILIES {
-        let mut ours_before = 0.0;
-        for rows in ROWS {
-            let tables: Vec<Vec<u8>> = (0..TABLES).map(|seed| make(family, rows, seed)).collect();
-            let [ours, other] = times(PROGRAMS, &tables);
-            println!(
-                "{:<26}{rows:>6}{ours:>12.3}{other:>12.3}{:>8.2}",
-                family.what,
-                ours / other
-            );
-            if rows == MAX_RECORDS {
-                growth.push(format!("{} {:.1}", family.what, ours / ours_before));
-            }
-            ours_before = ours;
-        }
+        let tables = |rows| (0..TABLES).map(|seed| make(family, rows, seed)).collect();
+        let series = ROWS.map(|rows| (format!("{rows} rows"), tables(rows)));
+        print_series(family.what, &mut PROGRAMS.clone(), series);
     }
-    println!(
-        "growth of ours from 100 rows to 1,024: {}",
-        growth.join("; ")
-    );
 }
 
 fn make(family: &Family, rows: usize, seed: u64) -> Vec<u8> {

@@ -1,137 +1,302 @@
-//! Times the library's reading of recipes beside the other program's, on recipes of 1 to 16 KB.
+//! Times the library's reading and flattening of recipes beside the other program's, on recipes that grow.
 //! It prints microseconds for one recipe and judges nothing.
 
-use harness::bandrolt::{read_recipe, ReadAnswer};
-use harness::other::recipe;
-use harness::timing::times;
+use harness::bandrolt::{flatten, read_recipe, Answer, ReadAnswer};
+use harness::other::{recipe, RECORD};
+use harness::recipes::text::{parse, parse_example};
+use harness::tables::MAX_RECORDS;
+use harness::timing::{print_head, print_series, Pair};
+use std::fmt::Debug;
 
-const SIZES: [usize; 5] = [1_024, 2_048, 4_096, 8_192, 16_384];
-const PROGRAMS: [fn(&[u8]) -> ReadAnswer; 2] = [read_recipe, |bytes| recipe::read(bytes).into()];
+type Flatten = fn(&[u8], &mut [u8]) -> Answer;
 
-/// What a family adds to a recipe for its `i`th definition and at its end, and the number that reading answers.
+/// A recipe that grows with a size, and the number that is answered.
 struct Family {
     what: &'static str,
-    definition: fn(usize) -> Vec<u8>,
-    last: fn(usize) -> Vec<u8>,
+    unit: &'static str,
+    sizes: &'static [usize],
+    recipe: fn(usize) -> String,
     number: u64,
 }
 
-const fn family(what: &'static str, definition: fn(usize) -> Vec<u8>) -> Family {
+const KILOBYTES: &[usize] = &[1, 2, 4, 8, 16];
+const INSTANCES: &[usize] = &[10, 28, 64];
+
+const fn read_family(what: &'static str, recipe: fn(usize) -> String, number: u64) -> Family {
     Family {
         what,
-        definition,
-        last: |_| vec![],
+        unit: "KB",
+        sizes: KILOBYTES,
+        recipe,
+        number,
+    }
+}
+
+const READING: [Family; 6] = [
+    read_family("plant models", |kb| filled(kb, unit, nothing), 0),
+    read_family("8 in common", |kb| filled(kb, common, nothing), 0),
+    read_family("empty models", |kb| filled(kb, numbered, nothing), 0),
+    read_family("inner first", |kb| filled(kb, inner, nothing), 0),
+    read_family("outer first", |kb| filled(kb, outer, numbered), 0),
+    read_family("one cycle", |kb| filled(kb, outer, closing), 6),
+];
+
+const fn family(
+    what: &'static str,
+    unit: &'static str,
+    sizes: &'static [usize],
+    recipe: fn(usize) -> String,
+) -> Family {
+    Family {
+        what,
+        unit,
+        sizes,
+        recipe,
         number: 0,
     }
 }
 
-const FAMILIES: [Family; 6] = [
-    family("plant models", plant),
-    family("11 characters in common", common),
-    family("empty definitions", numbered),
-    family("a line, inner first", |i| match i {
-        0 => numbered(0),
-        _ => [numbered(i), of_number(i - 1)].concat(),
+const FLATTENING: [Family; 10] = [
+    family("sample R", "elements", &[3], |_| {
+        include_str!("../../../examples/sample-r.recipe").into()
     }),
+    family("a plant", "instances", &[5, 17, 64], plant),
+    family("16 elements each", "instances", INSTANCES, |instances| {
+        tree(instances, "e")
+    }),
+    family("11 in common", "instances", INSTANCES, |instances| {
+        tree(instances, "common_stem")
+    }),
+    family("one definition", "elements", &[100, 200, 400], |elements| {
+        let species: String = (1..elements)
+            .map(|i| format!("species s{i} -> v\n"))
+            .collect();
+        format!("model top\ncompartment v\n{species}")
+    }),
+    family(
+        "ports and marks",
+        "in the tree",
+        &[730, 1_460, 2_920],
+        pointers,
+    ),
     Family {
-        last: numbered,
-        ..family("a line, outer first", outer)
+        number: 9,
+        ..family(
+            "ports that conflict",
+            "in the tree",
+            &[5_040, 10_080, 20_475],
+            ports,
+        )
     },
-    Family {
-        last: |i| [numbered(i), of_number(0)].concat(),
-        number: 6,
-        ..family("one cycle of all", outer)
-    },
+    family("ports onto ports", "deep", &[50, 100, 200], deep_ports),
+    family("five steps", "chains", &[8, 16, 32], chains),
+    family("12 underscores", "prefixes", &[6, 13, 26], underscores),
 ];
 
-fn numbered(i: usize) -> Vec<u8> {
-    model(&format!("m{i}"))
+fn main() {
+    print_head("reading");
+    let readers: Pair<fn(&[u8]) -> ReadAnswer> = [read_recipe, |bytes| recipe::read(bytes).into()];
+    print_families(&READING, readers, |answer| answer.number);
+
+    print_head("flattening");
+    let flatteners: Pair<Flatten> = [flatten, recipe::flatten];
+    let flatteners = flatteners.map(|flatten| {
+        let mut table = vec![0; MAX_RECORDS * RECORD];
+        move |recipe: &[u8]| flatten(recipe, &mut table)
+    });
+    print_families(&FLATTENING, flatteners, |answer| answer.number);
 }
 
-fn of_number(i: usize) -> Vec<u8> {
-    submodel("x", &format!("m{i}"))
+fn print_families<A: Debug + PartialEq>(
+    families: &[Family],
+    mut programs: Pair<impl FnMut(&[u8]) -> A>,
+    number: fn(&A) -> u64,
+) {
+    for family in families {
+        let mut series = Vec::new();
+        for size in family.sizes {
+            let example = parse_example(&(family.recipe)(*size)).expect("a recipe");
+            let [ours, other] = programs.each_mut().map(|program| program(&example.recipe));
+            assert_eq!(ours, other, "the programs answer the same");
+            assert_eq!(number(&ours), family.number, "{}", family.what);
+            series.push((format!("{size} {}", family.unit), vec![example.recipe]));
+        }
+        print_series(family.what, &mut programs, series);
+    }
 }
 
-fn outer(i: usize) -> Vec<u8> {
-    [numbered(i), of_number(i + 1)].concat()
+/// As many definitions as so many kilobytes hold, and an end.
+fn filled(kilobytes: usize, definition: fn(usize) -> String, last: fn(usize) -> String) -> String {
+    let length = |recipe: &str| parse(recipe).expect("a recipe").len();
+    let mut recipe = String::new();
+    let mut left = 1_024 * kilobytes;
+    for i in 0.. {
+        let (more, last) = (definition(i), last(i));
+        if length(&more) + length(&last) > left {
+            recipe += &last;
+            break;
+        }
+        left -= length(&more);
+        recipe += &more;
+    }
+    recipe
 }
 
-fn field(name: &str) -> Vec<u8> {
-    let mut field = name.as_bytes().to_vec();
-    field.resize(12, 0);
-    field
+fn nothing(_: usize) -> String {
+    String::new()
 }
 
-fn model(name: &str) -> Vec<u8> {
-    [vec![1], field(name)].concat()
+fn numbered(i: usize) -> String {
+    format!("model m{i}\n")
 }
 
-fn element(name: &str, class: u8, reference: &str) -> Vec<u8> {
-    [
-        vec![2],
-        field(name),
-        vec![class],
-        field(""),
-        field(reference),
-    ]
-    .concat()
+fn outer(i: usize) -> String {
+    format!("model m{i}\nsubmodel x of m{}\n", i + 1)
 }
 
-fn submodel(name: &str, model: &str) -> Vec<u8> {
-    [vec![4], field(name), field(model)].concat()
+fn closing(i: usize) -> String {
+    format!("model m{i}\nsubmodel x of m0\n")
+}
+
+fn inner(i: usize) -> String {
+    match i {
+        0 => numbered(0),
+        _ => format!("model m{i}\nsubmodel x of m{}\n", i - 1),
+    }
 }
 
 /// A compartment, four species in it, a parameter, and the definition before it inside.
-fn plant(i: usize) -> Vec<u8> {
-    let species = (0..4).flat_map(|k| element(&format!("s{k}"), 2, "v"));
-    let mut records = [model(&format!("unit{i}")), element("v", 1, "")].concat();
-    records.extend(species);
-    records.extend(element("k", 3, ""));
-    if i > 0 {
-        records.extend(submodel("feed", &format!("unit{}", i - 1)));
-        records.extend([vec![6], field("v"), field("feed"), vec![0], field("v")].concat());
-    }
-    records
+fn unit(i: usize) -> String {
+    let species: String = (0..4).map(|k| format!("species s{k} -> v\n")).collect();
+    let feed = match i {
+        0 => String::new(),
+        _ => format!("submodel feed of unit{}\nreplace feed.v by v\n", i - 1),
+    };
+    format!("model unit{i}\ncompartment v\n{species}parameter k\n{feed}")
 }
 
 /// One definition of compartments whose names differ in their last characters alone.
-fn common(i: usize) -> Vec<u8> {
-    let first = if i == 0 { model("m") } else { vec![] };
-    [first, element(&format!("abcdefgh{i:04}"), 1, "")].concat()
+fn common(i: usize) -> String {
+    let first = if i == 0 { "model m\n" } else { "" };
+    format!("{first}compartment abcdefgh{i:04}\n")
 }
 
-/// A recipe of at most `size` bytes.
-fn make(family: &Family, size: usize) -> Vec<u8> {
-    let mut bytes = Vec::new();
-    for i in 0.. {
-        let more = (family.definition)(i);
-        let last = (family.last)(i);
-        if bytes.len() + more.len() + last.len() > size {
-            bytes.extend(last);
-            break;
-        }
-        bytes.extend(more);
-    }
-    let [ours, other] = PROGRAMS.map(|read| read(&bytes));
-    assert_eq!(ours, other, "the programs answer the same");
-    assert_eq!(ours.number, family.number, "{}", family.what);
-    bytes
+/// A hall with reactors of 8 elements, each of them in the hall's volume and at its temperature.
+fn plant(instances: usize) -> String {
+    let reactors: String = (1..instances)
+        .map(|i| {
+            format!(
+                "submodel unit{i} of reactor
+                 replace unit{i}:volume by hall
+                 replace unit{i}.heat by heat\n"
+            )
+        })
+        .collect();
+    format!(
+        "model plant
+         compartment hall\nspecies broth -> hall\nspecies feed -> hall\nparameter heat\nparameter flow
+         reaction dilute -> hall\nspecies-reference d in dilute -> feed\nrate-rule growth -> broth
+         {reactors}
+         model reactor
+         compartment v\nspecies biomass -> v\nspecies sugar -> v\nparameter heat\nparameter k
+         reaction grow -> v\nspecies-reference q in grow -> sugar\nlocal-parameter rate in grow
+         port volume = .v"
+    )
 }
 
-fn main() {
-    println!(
-        "{:<26}{:>6}{:>12}{:>12}{:>8}",
-        "recipes", "KB", "ours, us", "other, us", "ratio"
+/// Main, and below it submodels with eight submodels each; 16 elements in every instance, named by a stem and a digit.
+fn tree(instances: usize, stem: &str) -> String {
+    let species: String = (1..=10)
+        .map(|i| format!("species @{i:x} -> @0\n"))
+        .collect();
+    let elements = format!(
+        "compartment @0\n{species}parameter @b\nreaction @c -> @0\nspecies-reference @d in @c -> @1
+         rate-rule @e -> @b\nlocal-parameter @f in @c\n"
     );
-    for family in &FAMILIES {
-        for size in SIZES {
-            let [ours, other] = times(PROGRAMS, &[make(family, size)]);
-            println!(
-                "{:<26}{:>6}{ours:>12.3}{other:>12.3}{:>8.2}",
-                family.what,
-                size / 1_024,
-                ours / other
-            );
+    let elements = elements.replace('@', stem);
+    let submodels = |count: usize, model: &str| -> String {
+        (0..count)
+            .map(|i| format!("submodel sub{i} of {model}\n"))
+            .collect()
+    };
+    let main = submodels((instances - 1) / 9, "mid");
+    let mid = submodels(8, "low");
+    format!("model top\n{elements}{main}model mid\n{elements}{mid}model low\n{elements}")
+}
+
+/// Ports and marks that are accepted: 48 leaves, whose elements have a port on three levels, and deletions
+/// over them. So many are in the tree, for 1/146 of that many elements in a leaf.
+fn pointers(in_tree: usize) -> String {
+    let elements = in_tree / 146;
+    let mut recipe = String::from("model top\nsubmodel a of m1\nsubmodel b of m1\n");
+    recipe += "model m1\nsubmodel a of m2\nsubmodel b of m2\n";
+    for i in 0..elements {
+        recipe += &format!("delete a:p0_0_{i}\n");
+    }
+    recipe += "model m2\nsubmodel a0 of m3\nsubmodel a1 of m3\n";
+    for (a, b, i) in (0..2 * 6 * elements).map(|k| (k % 2, k / 2 % 6, k / 12)) {
+        recipe += &format!("port p{a}_{b}_{i} = a{a}:p{b}_{i}\n");
+    }
+    recipe += "model m3\n";
+    for b in 0..6 {
+        recipe += &format!("submodel a{b} of m4\n");
+        for i in 0..elements {
+            recipe += &format!("port p{b}_{i} = a{b}:p{i}\n");
         }
     }
+    recipe += "model m4\n";
+    for i in 0..elements {
+        recipe += &format!("parameter e{i}\nport p{i} = .e{i}\n");
+    }
+    recipe
+}
+
+/// 63 instances with so many ports together, far more than elements: two of them conflict.
+fn ports(in_tree: usize) -> String {
+    let submodels: String = (0..63).map(|i| format!("submodel a{i} of low\n")).collect();
+    let elements: String = (0..16).map(|i| format!("parameter e{i}\n")).collect();
+    let ports: String = (0..in_tree / 63)
+        .map(|i| format!("port p{i} = .e{}\n", i % 16))
+        .collect();
+    format!("model top\n{submodels}model low\n{elements}{ports}")
+}
+
+/// Each port leads to the port of the next definition; main uses none of them.
+fn deep_ports(levels: usize) -> String {
+    let ports: String = (1..levels)
+        .map(|i| format!("model m{i}\nsubmodel a of m{}\nport p = a:p\n", i + 1))
+        .collect();
+    format!("model top\n{ports}model m{levels}\ncompartment v\nport p = .v\n")
+}
+
+/// Species whose references take five steps, up through all levels and down to another submodel.
+fn chains(count: usize) -> String {
+    let each = |record: fn(usize) -> String| -> String { (0..count).map(record).collect() };
+    let elements = each(|i| format!("compartment v{i}\n"));
+    let replacements = each(|i| format!("replace a.v{i} by v{i}\n"));
+    let by = each(|i| format!("v{i} replaced by z.v{i}\n"));
+    let species = each(|i| format!("species s{i} -> v{i}\n"));
+    let mut recipe = format!("model top\n{elements}submodel a of m1\n{replacements}");
+    recipe += &format!("submodel z of other\n{by}");
+    for level in 1..4 {
+        let submodel = format!("submodel a of m{}\n", level + 1);
+        recipe += &format!("model m{level}\n{elements}{submodel}{replacements}");
+    }
+    recipe + &format!("model m4\n{elements}{species}model other\n{elements}")
+}
+
+/// Submodels whose prefixes take 12 underscores, with each shorter run in a name beside them.
+fn underscores(count: usize) -> String {
+    let mut recipe = String::from("model top\n");
+    for letter in ('a'..='z').take(count) {
+        recipe += &format!("submodel {letter} of low\n");
+        for run in 2..=11 {
+            recipe += &format!("parameter {letter}{}\n", "_".repeat(run));
+        }
+    }
+    recipe += "model low\n";
+    recipe
+        + &(0..15)
+            .map(|i| format!("parameter e{i}\n"))
+            .collect::<String>()
 }

@@ -1,17 +1,17 @@
 //! Runs the programs that flatten beside each other, on 01's recipes, on generated and on enumerated ones.
-//! `recipes [SEED]`, where the second random set follows from SEED or else from the clock;
-//! `recipes encode FILE` writes the bytes of a recipe in text, `recipes show FILE` the text of bytes.
+//! `recipes [SEED]`, where the second random set follows from SEED or else from the clock; `recipes few`, for valgrind;
+//! `recipes encode FILE` writes the bytes of a recipe in text, `recipes show FILE` the text of bytes, and
+//! `recipes print FILE` what 01's printing program prints of bytes, by the other program.
 
-use harness::bandrolt::{read_recipe, ReadAnswer};
+use harness::bandrolt::{check_table, flatten, read_recipe, Answer, ReadAnswer, TableAnswer};
 use harness::other::recipe::rules::{Rules, MUTANTS};
 use harness::other::recipe::slow::{self, conflicts, Conflict};
-use harness::other::recipe::{self, Answer};
-use harness::other::{table, RECORD};
+use harness::other::{recipe, table, RECORD};
 use harness::random::Random;
 use harness::recipes::enumerate::each_recipe;
 use harness::recipes::generate::case;
-use harness::recipes::named::{edges, examples, to_try, Named};
-use harness::recipes::{printed, text};
+use harness::recipes::named::{edges, examples, to_try, Named, ROOM};
+use harness::recipes::{other_prints, printed, text};
 use harness::report::{save, seed_from_clock, Tally};
 use std::collections::BTreeMap;
 use std::io::Write;
@@ -19,10 +19,11 @@ use std::process::ExitCode;
 use std::time::Instant;
 
 const FIXED_SEED: u64 = 1;
-const CASES_OF_A_SEED: u64 = 20_000;
-const LEAST_OF_A_NUMBER: usize = 500;
-const LEAST_OF_A_CONFLICT: usize = 100;
-const USAGE: &str = "usage: recipes [SEED] | recipes encode FILE | recipes show FILE";
+const CASES_OF_A_SEED: u64 = 50_000;
+const FEW_CASES: u64 = 300;
+const LEAST_OF_A_NUMBER: usize = 1_250;
+const LEAST_OF_A_CONFLICT: usize = 250;
+const USAGE: &str = "usage: recipes [SEED] | recipes few | recipes encode|show|print FILE";
 
 type Read = fn(&[u8]) -> ReadAnswer;
 type Flatten = fn(&[u8], &mut [u8]) -> Answer;
@@ -42,22 +43,32 @@ const FLATTENERS: &[(&str, Flatten)] = &[
     ("slow", |recipe, table| {
         slow::flatten(recipe, table, &Rules::default())
     }),
+    ("library", flatten),
 ];
+
+/// The programs that check tables; all must find closed what flattening leaves.
+const CHECKS: &[fn(&[u8]) -> TableAnswer] = &[|table| table::check(table).into(), check_table];
 
 fn main() -> ExitCode {
     let arguments: Vec<String> = std::env::args().skip(1).collect();
     let arguments: Vec<&str> = arguments.iter().map(String::as_str).collect();
     let done = match arguments[..] {
         [] => return check(seed_from_clock()),
+        ["few"] => return check_few(),
         ["encode", file] => encode(file),
-        ["show", file] => show(file),
+        ["show", file] => read(file).map(|recipe| text::print(&recipe).into_bytes()),
+        ["print", file] => read(file).map(|recipe| other_prints(&recipe, ROOM).into_bytes()),
         [seed] => match seed.parse() {
             Ok(seed) => return check(seed),
             Err(_) => Err(USAGE.into()),
         },
         _ => Err(USAGE.into()),
     };
-    match done {
+    let written = done.and_then(|bytes| {
+        let written = std::io::stdout().write_all(&bytes);
+        written.map_err(|error| error.to_string())
+    });
+    match written {
         Ok(()) => ExitCode::SUCCESS,
         Err(error) => {
             eprintln!("{error}");
@@ -66,18 +77,14 @@ fn main() -> ExitCode {
     }
 }
 
-fn encode(file: &str) -> Result<(), String> {
-    let told = |error: &dyn std::fmt::Display| format!("{file}: {error}");
-    let text = std::fs::read_to_string(file).map_err(|error| told(&error))?;
-    let example = text::parse_example(&text).map_err(|error| told(&error))?;
-    let written = std::io::stdout().write_all(&example.recipe);
-    written.map_err(|error| told(&error))
+fn read(file: &str) -> Result<Vec<u8>, String> {
+    std::fs::read(file).map_err(|error| format!("{file}: {error}"))
 }
 
-fn show(file: &str) -> Result<(), String> {
-    let recipe = std::fs::read(file).map_err(|error| format!("{file}: {error}"))?;
-    print!("{}", text::print(&recipe));
-    Ok(())
+fn encode(file: &str) -> Result<Vec<u8>, String> {
+    let text = String::from_utf8_lossy(&read(file)?).into_owned();
+    let example = text::parse_example(&text).map_err(|error| format!("{file}: {error}"))?;
+    Ok(example.recipe)
 }
 
 /// What the recipes of one set have shown.
@@ -93,10 +100,15 @@ struct Outcome {
     told_by: BTreeMap<usize, Option<usize>>,
 }
 
-fn check(seed: u64) -> ExitCode {
+/// 01's recipes and random ones, few enough for a run under valgrind.
+fn check_few() -> ExitCode {
     let mut tally = Tally::default();
-    let mutants: Vec<Rules> = MUTANTS.iter().map(|(_, bend)| Rules::bent(*bend)).collect();
+    check_named(&mut tally);
+    check_random(FIXED_SEED, FEW_CASES, &[], &mut tally);
+    tally.end()
+}
 
+fn check_named(tally: &mut Tally) {
     for (set, named) in [
         ("01's recipes to try", to_try()),
         ("edges", edges()),
@@ -107,17 +119,28 @@ fn check(seed: u64) -> ExitCode {
             tally.add(&named.what, prints_as_said(named));
         }
     }
+}
+
+fn check_random(seed: u64, cases: u64, mutants: &[Rules], tally: &mut Tally) -> Outcome {
+    let mut outcome = Outcome::trying(0..mutants.len());
+    let start = Instant::now();
+    for number in 0..cases {
+        let random = Random::of_case(seed, number);
+        outcome.add(&case(&random), &random, mutants);
+    }
+    outcome.print(&format!("random recipes of seed {seed}"), start);
+    tally.add("the programs agree on them", outcome.differing == 0);
+    outcome
+}
+
+fn check(seed: u64) -> ExitCode {
+    let mut tally = Tally::default();
+    let mutants: Vec<Rules> = MUTANTS.iter().map(|(_, bend)| Rules::bent(*bend)).collect();
+    check_named(&mut tally);
 
     let mut outcomes = Vec::new();
     for seed in [FIXED_SEED, seed] {
-        let mut outcome = Outcome::trying(0..mutants.len());
-        let start = Instant::now();
-        for number in 0..CASES_OF_A_SEED {
-            let random = Random::of_case(seed, number);
-            outcome.add(&case(&random), &random, &mutants);
-        }
-        outcome.print(&format!("random recipes of seed {seed}"), start);
-        tally.add("the programs agree on them", outcome.differing == 0);
+        let outcome = check_random(seed, CASES_OF_A_SEED, &mutants, &mut tally);
         let rarest = outcome.numbers.iter().min();
         let is_mixed = rarest >= Some(&LEAST_OF_A_NUMBER);
         tally.add("each number is answered often enough", is_mixed);
@@ -233,10 +256,13 @@ fn fault(read: &ReadAnswer, answer: &Answer, output: &[u8]) -> Option<&'static s
         return Some("the rest of the output is changed");
     }
     // Demand 3: what flattening leaves is closed.
-    match table::check(written) {
-        Ok(count) if count == answer.count as usize => None,
-        _ => Some("the table is not closed"),
-    }
+    let closed = TableAnswer {
+        number: 0,
+        place: 0,
+        count: answer.count,
+    };
+    let is_closed = CHECKS.iter().all(|check| check(written) == closed);
+    (!is_closed).then_some("the table is not closed")
 }
 
 impl Outcome {

@@ -6,7 +6,7 @@ pub mod recipe;
 pub mod rules;
 pub mod table;
 
-use crate::bandrolt::TableAnswer;
+use crate::bandrolt::{Answer, ReadAnswer, TableAnswer};
 
 /// The length of a recipe's name field.
 pub const NAME: usize = 12;
@@ -36,20 +36,44 @@ impl Refusal {
     }
 }
 
-/// The number of records of a closed table.
+/// The number of records, of a closed table or of a flat model.
 pub type Verdict = Result<usize, Refusal>;
 
-impl From<Verdict> for TableAnswer {
-    /// "Acceptance gives number 0, place 0 and the number of records; a refusal has count 0."
+impl From<Verdict> for Answer {
+    /// "Flattening returns number 0, place 0, the record count and the byte count 205 × count",
+    /// "otherwise it returns the number below, the place, both counts 0".
     fn from(verdict: Verdict) -> Self {
         let (number, place, count) = match verdict {
             Ok(count) => (0, 0, count),
             Err(refusal) => (refusal.number, refusal.place, 0),
         };
-        TableAnswer {
+        Answer {
             number,
             place: place as u64,
             count: count as u64,
+            bytes: (RECORD * count) as u64,
+        }
+    }
+}
+
+impl From<Verdict> for TableAnswer {
+    /// "Acceptance gives number 0, place 0 and the number of records; a refusal has count 0."
+    fn from(verdict: Verdict) -> Self {
+        let answer = Answer::from(verdict);
+        TableAnswer {
+            number: answer.number,
+            place: answer.place,
+            count: answer.count,
+        }
+    }
+}
+
+impl From<Result<(), Refusal>> for ReadAnswer {
+    fn from(verdict: Result<(), Refusal>) -> Self {
+        let answer = Answer::from(verdict.map(|()| 0));
+        ReadAnswer {
+            number: answer.number,
+            place: answer.place,
         }
     }
 }

@@ -9,7 +9,8 @@ pub mod generate;
 pub mod named;
 pub mod text;
 
-use crate::other::recipe::Answer;
+use crate::bandrolt::Answer;
+use crate::other::recipe::flatten;
 use crate::other::rules::before_zero;
 use crate::other::{FIELD, NAME, RECORD};
 use crate::tables::field;
@@ -184,4 +185,10 @@ pub fn printed(answer: &Answer, table: &[u8]) -> String {
     };
     let records = table.chunks_exact(RECORD).take(answer.count as usize);
     format!("flat {}\n", answer.count) + &records.map(line).collect::<String>()
+}
+
+/// What 01's printing program prints of a recipe, with the other program's flattening into so many bytes.
+pub fn other_prints(recipe: &[u8], room: usize) -> String {
+    let mut table = vec![0; room];
+    printed(&flatten(recipe, &mut table), &table)
 }

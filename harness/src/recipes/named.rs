@@ -4,7 +4,7 @@
 use super::aimed::chain;
 use super::damage::padded;
 use super::text::{parse, parse_example, Example};
-use crate::other::MAX_RECIPE;
+use crate::other::{MAX_RECIPE, RECORD};
 use crate::random::Random;
 
 /// The output that 01's printing program lends.
@@ -19,45 +19,24 @@ pub struct Named {
 
 /// The files of examples/, with what they say that they give.
 pub fn examples() -> Vec<Named> {
-    const FILES: &[(&str, &str)] = &[
-        (
-            "sample-r",
-            include_str!("../../../examples/sample-r.recipe"),
-        ),
-        (
-            "inner-names",
-            include_str!("../../../examples/inner-names.recipe"),
-        ),
-        (
-            "replaced-rate-rule",
-            include_str!("../../../examples/replaced-rate-rule.recipe"),
-        ),
-        (
-            "lost-reactant",
-            include_str!("../../../examples/lost-reactant.recipe"),
-        ),
-        (
-            "missing-port",
-            include_str!("../../../examples/missing-port.recipe"),
-        ),
-        (
-            "outer-names",
-            include_str!("../../../examples/outer-names.recipe"),
-        ),
-        (
-            "chain-through-replaced-by",
-            include_str!("../../../examples/chain-through-replaced-by.recipe"),
-        ),
-        (
-            "port-onto-gone",
-            include_str!("../../../examples/port-onto-gone.recipe"),
-        ),
-        (
-            "figure-8",
-            include_str!("../../../examples/figure-8.recipe"),
-        ),
+    macro_rules! files {
+        ($($name:literal),+ $(,)?) => {
+            [$(($name, include_str!(concat!("../../../examples/", $name, ".recipe")))),+]
+        };
+    }
+    let files = files![
+        "sample-r",
+        "two-levels",
+        "inner-names",
+        "replaced-rate-rule",
+        "lost-reactant",
+        "missing-port",
+        "outer-names",
+        "chain-through-replaced-by",
+        "port-onto-gone",
+        "figure-8",
     ];
-    let named = |&(what, text): &(&str, &str)| {
+    let named = |(what, text): (&str, &str)| {
         let Example { recipe, gives } = parse_example(text).expect("an example file");
         Named {
             what: format!("examples/{what}.recipe"),
@@ -66,8 +45,10 @@ pub fn examples() -> Vec<Named> {
             prints: gives.expect("what the example gives"),
         }
     };
-    FILES.iter().map(named).collect()
+    files.into_iter().map(named).collect()
 }
+
+const TWO_LEVELS: &str = include_str!("../../../examples/two-levels.recipe");
 
 const SAMPLE_R: &str = "
     model top
@@ -187,6 +168,28 @@ pub fn to_try() -> Vec<Named> {
     ]
 }
 
+/// A recipe with so many flat records, nearly all with three names of 68 characters, and what is printed of it.
+fn longest_lines(count: usize) -> (Vec<u8>, String) {
+    let prefixes = "submodel_one__".repeat(4);
+    let mut recipe: String = (0..4)
+        .map(|i| format!("model m{i}\nsubmodel submodel_one of m{}\n", i + 1))
+        .collect();
+    recipe += "model m4\ncompartment compartment1\nspecies the_species1 -> compartment1\nreaction the_reaction\n";
+    let mut prints = format!(
+        "flat {count}
+1 {prefixes}compartment1 - -
+2 {prefixes}the_species1 - {prefixes}compartment1
+4 {prefixes}the_reaction - -
+"
+    );
+    for i in 3..count {
+        let name = format!("reference{i:03}");
+        recipe += &format!("species-reference {name} in the_reaction -> the_species1\n");
+        prints += &format!("5 {prefixes}{name} {prefixes}the_reaction {prefixes}the_species1\n");
+    }
+    (parse(&recipe).expect("a recipe"), prints)
+}
+
 /// Where 01's sentences could be read in another way, and where a program might be led astray.
 pub fn edges() -> Vec<Named> {
     let mut edges = vec![
@@ -254,6 +257,11 @@ pub fn edges() -> Vec<Named> {
             "flat 0",
         ),
         named(
+            "the same by name, over the port",
+            "model top\nsubmodel a of cell\ndelete a.v\nmodel cell\ncompartment v\nport p = .v",
+            "flat 0",
+        ),
+        named(
             "a conflict and another class in an unused definition",
             "model top\nmodel cell\ncompartment v
              model unused\nparameter k\nsubmodel a of cell\nport p = a.v\nport q = a.v",
@@ -302,6 +310,34 @@ pub fn edges() -> Vec<Named> {
             prints: prints.into(),
         });
     };
+    // The changes of docs/PICTURE.md.
+    for (line, to, prints) in [
+        (
+            "replace unit:volume by hall",
+            "delete unit:volume",
+            "refused 12 at 495\n",
+        ),
+        (
+            "replace unit:volume by hall",
+            "replace unit.k by hall",
+            "refused 10 at 215\n",
+        ),
+        (
+            "broth replaced by tank.feed",
+            "broth replaced by tank.feed\ndelete tank.feed",
+            "refused 9 at 215\n",
+        ),
+        (
+            "compartment hall",
+            "compartment hall\nparameter tank__x",
+            "flat 7\n1 hall - -\n3 tank__x - -\n6 growth - tank___feed\n1 tank___v - -
+2 tank___feed - tank___v\n3 unit__k - -\n2 unit__vessel__biomass - hall\n",
+        ),
+    ] {
+        let text = TWO_LEVELS.replacen(line, to, 1);
+        let Example { recipe, .. } = parse_example(&text).expect("an example file");
+        add(&format!("two levels with {to}"), recipe, prints);
+    }
     let top = parse("model top").expect("a recipe");
     let used = chain(2, 160, true, random).encode();
     add("a doubling chain of 160", used, "refused 7 at 0\n");
@@ -317,6 +353,8 @@ pub fn edges() -> Vec<Named> {
         .collect();
     let doubling = parse(&(doubling + "model m200")).expect("a recipe");
     add("a doubling chain of 200", doubling, "refused 7 at 0\n");
+    let unused = parse(&format!("model top\n{}", line(120))).expect("a recipe");
+    add("120 unused definitions in a line", unused, "flat 0\n");
     let ports = chain(1, 210, false, random).encode();
     add("ports through 210 levels, not used", ports, "flat 0\n");
     let padded = |length: usize| padded(top.clone(), length);
@@ -324,5 +362,11 @@ pub fn edges() -> Vec<Named> {
     let flat = format!("flat 9\n{pads}");
     add("16,384 bytes", padded(MAX_RECIPE), &flat);
     add("16,385 bytes", padded(MAX_RECIPE + 1), "refused 1 at 0\n");
+    add("20,000 bytes", padded(20_000), "refused 1 at 0\n");
+    add("16,384 zeros", vec![0; MAX_RECIPE], "refused 2 at 0\n");
+    let (most, prints) = longest_lines(ROOM / RECORD);
+    add("as many records as the output holds", most, &prints);
+    let (too_many, _) = longest_lines(ROOM / RECORD + 1);
+    add("one record more", too_many, "refused 13 at 0\n");
     edges
 }

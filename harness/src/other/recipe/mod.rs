@@ -10,46 +10,12 @@ pub mod slow;
 mod targets;
 mod tree;
 
-use super::{Refusal, RECORD};
-use crate::bandrolt::ReadAnswer;
+use super::Refusal;
+use crate::bandrolt::Answer;
 use flat::Flat;
 use marks::Fates;
 use targets::Targets;
 use tree::Tree;
-
-impl From<Result<(), Refusal>> for ReadAnswer {
-    fn from(verdict: Result<(), Refusal>) -> Self {
-        let (number, place) = verdict.map_or_else(|r| (r.number, r.place as u64), |()| (0, 0));
-        ReadAnswer { number, place }
-    }
-}
-
-/// What flattening answers.
-#[repr(C)]
-#[derive(Clone, Copy, Debug, PartialEq, Eq)]
-pub struct Answer {
-    pub number: u64,
-    pub place: u64,
-    pub count: u64,
-    pub bytes: u64,
-}
-
-impl From<Result<usize, Refusal>> for Answer {
-    /// "Flattening returns number 0, place 0, the record count and the byte count 205 × count",
-    /// "otherwise it returns the number below, the place, both counts 0".
-    fn from(verdict: Result<usize, Refusal>) -> Self {
-        let (number, place, count) = match verdict {
-            Ok(count) => (0, 0, count),
-            Err(refusal) => (refusal.number, refusal.place, 0),
-        };
-        Answer {
-            number,
-            place: place as u64,
-            count: count as u64,
-            bytes: (RECORD * count) as u64,
-        }
-    }
-}
 
 /// Rows 1 to 6.
 pub fn read(recipe: &[u8]) -> Result<(), Refusal> {

@@ -2,7 +2,7 @@
 //! It shares nothing with the other program but a few lengths.
 
 use super::rules::{ReplacedBy, Rules, TreeOrder};
-use super::Answer;
+use crate::bandrolt::Answer;
 use crate::other::rules::{before_zero, Row};
 use crate::other::{Refusal, FIELD, NAME, RECORD};
 use std::collections::{BTreeSet, HashSet};
