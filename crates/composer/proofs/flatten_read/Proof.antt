@@ -1,6 +1,7 @@
 -- `composer::flatten_read` meets its contract: a refusal of rows 7 to 12 is handed on, else the room decides.
 -- Assumes nothing.
 use mathlib.Core.Path.{_∙_, refl}
+use native.Mathlib.Omega.{arith}
 use Rattle.composer.proofs.Handed.{judged-is, read-passes}
 use Rattle.composer.proofs.Joining.{tree-keeps, tree-refuses}
 use borrow.Author.Needs.{needs}
@@ -17,10 +18,10 @@ refusal-requires : tie.Need-refusal-requires
 refusal-requires c κs = search needs
 
 returns : tie.Need-returns
-returns c = (c .refusal .ensures ∙ tree-refuses (record { width = c .before .before .before .before .before .before .before .before .before .before .before .args .w; bytes = c .before .before .before .before .before .before .before .before .before .before .before .args .s .now }) _ _ (c .before .before .before .before .before .before .before .before .before .before .before .args .table .now) (read-passes (c .before .before .before .before .before .before .before .before .before .before .before .pre)) (c .before .before .judge-tree .ensures .0) (c .before .if1 .taken), tree-keeps (record { width = c .before .before .before .before .before .before .before .before .before .before .before .args .w; bytes = c .before .before .before .before .before .before .before .before .before .before .before .args .s .now }) _ _ (c .before .before .before .before .before .before .before .before .before .before .before .args .table .now) (read-passes (c .before .before .before .before .before .before .before .before .before .before .before .pre)) (c .before .before .judge-tree .ensures .0) (c .before .if1 .taken))
+returns c = (c .refusal .ensures ∙ tree-refuses (record { width = c .before .before .before .before .before .before .before .before .before .before .before .args .w; bytes = c .before .before .before .before .before .before .before .before .before .before .before .args .s .now }) _ _ (c .before .before .before .before .before .before .before .before .before .before .before .args .table .now) (read-passes (c .before .before .before .before .before .before .before .before .before .before .before .pre)) (c .before .before .judge-tree .ensures .0) (λ z. omega (arith, c .before .if1 .taken)), tree-keeps (record { width = c .before .before .before .before .before .before .before .before .before .before .before .args .w; bytes = c .before .before .before .before .before .before .before .before .before .before .before .args .s .now }) _ _ (c .before .before .before .before .before .before .before .before .before .before .before .args .table .now) (read-passes (c .before .before .before .before .before .before .before .before .before .before .before .pre)) (c .before .before .judge-tree .ensures .0) (λ z. omega (arith, c .before .if1 .taken)))
 
 flatten-judged-requires : tie.Need-flatten-judged-requires
-flatten-judged-requires c κs = judged-is (c .before .before .before .before .before .before .before .before .judge-tree .ensures .1 (c .before .before .before .before .before .before .before .if1 .left))
+flatten-judged-requires c κs = judged-is (c .before .before .before .before .before .before .before .before .judge-tree .ensures .1 (omega (arith, c .before .before .before .before .before .before .before .if1 .left)))
 
 same-length : tie.Need-same-length
 same-length c = search needs

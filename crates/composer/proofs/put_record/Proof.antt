@@ -97,7 +97,7 @@ put-element-requires c κs =
     let l = st .pre .1 .1 .1 .0 in
     let room = record-room _ _ _ (st .pre .1 .1 .1 .1) in
     let k₀ = length-set (a .out .now) (a .at) (getD (a .s .now) (c .before .before .wide .result + 1 + a .w) 0) in
-    (N, (l, omega (arith, room, k₀)))
+    (N, (omega (arith, l), omega (arith, room, k₀)))
 
 put-parent-requires : tie.Need-put-parent-requires
 put-parent-requires c κs =
