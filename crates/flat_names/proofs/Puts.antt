@@ -13,6 +13,7 @@ use lib.Dec.{eqb, ltb}
 use borrow.Author.Tests.{eqb-true, ltb-false, not-false}
 use Rattle.names.specs.Lists.{In, every, padded}
 use Rattle.names.specs.Names.{text, nonZero, isBlank, isName, isNameOrBlank, areNameCharacters, fieldAt}
+use Rattle.names.proofs.Names.{blank-zeros}
 use Rattle.names.proofs.Tests.{by-cases, not-both, and-left, and-right, or-none-left}
 use Rattle.names.proofs.Lists.{none-first, take-while, getD-in}
 use Rattle.flat_table.specs.Classes.{isClass}
@@ -81,14 +82,6 @@ parts out o₁ o₂ o₃ at a b c l w la lb e₁ e₂ e₃ =
     e₃ ∙ (ap (λ (o : List ℕ). sets o (at + (l + w)) c) two ∙ (ap (λ (k : ℕ). sets (sets out at (a ++ b)) k c) on ∙ sym (sets-append (a ++ b) out at c)))
 
 -- ---- a name's field is the name and zeros
-blank-zeros : (f : List ℕ) → isBlank f ≡ true → f ≡ replicate (length f) 0
-unfolding isBlank
-blank-zeros [] e = refl
-blank-zeros (x ∷ f) e =
-    by-cases (eqb 0 x)
-    (λ h. let z : 0 ≡ x = eqb-true 0 x h in let r : f ≡ replicate (length f) 0 = blank-zeros f (rw (h, every) at e) in cc)
-    (λ h. not-both e (rw (h, every)))
-
 name-padding : (w : ℕ) (f : List ℕ) → isName f ≡ true → length f ≡ w → f ≡ padded w (text f)
 unfolding isName text padded
 name-padding w f e l =

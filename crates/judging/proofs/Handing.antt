@@ -27,7 +27,9 @@ use Rattle.marks.specs.Cells.{Cells, Ready}
 use Rattle.marks.specs.Elements.{Elements}
 use Rattle.marks.specs.Faults.{fault₉}
 use Rattle.marks.specs.Gone.{Marked}
-use Rattle.marks.specs.Listing as listing
+use Rattle.marks.specs.Listing.{Listable}
+use Rattle.marks.proofs.Listing.{ready-listable}
+use Rattle.marks.proofs.References.{references as row-12-asks}
 use Rattle.marks.specs.References.{References}
 use Rattle.marks.specs.Steps.{StepsAre}
 use Rattle.marks.proofs.Handed.{ready}
@@ -194,20 +196,9 @@ module _ (s : Recipe) where
         refers = references-are hold (g .model) height own sub par refs nxt t;
       }
 
-  pub counted : (hold rel own ord inst refs par cells : List ℕ) (n : ℕ) → Referring s hold rel own ord inst n refs par cells → listing.Counted s hold ord inst n
-  counted hold rel own ord inst refs par cells n r = record {
-    narrow = r .ready .narrow;
-    short = r .ready .short;
-    whole = r .ready .whole;
-    small = r .ready .small;
-    holds = r .ready .links .holds;
-    orders = r .ready .links .orders;
-    tree = r .ready .tree;
-  }
+  pub listable : (hold rel own ord inst refs par cells : List ℕ) (n : ℕ) → Referring s hold rel own ord inst n refs par cells → Listable s hold ord inst n
+  listable hold rel own ord inst refs par cells n r = ready-listable (r .ready)
 
   pub references : (hold rel own ord inst refs par cells go place within : List ℕ) (n : ℕ) → Referring s hold rel own ord inst n refs par cells → StepsAre s go → Elements s place within
       → References s hold ord inst n refs par cells go place
-  references hold rel own ord inst refs par cells go place within n r g e = record {
-    counted = counted hold rel own ord inst refs par cells n r;
-    judged = record { narrow = r .ready .narrow; marked = r .marked; steps = g; placed = e .places; refers = r .refers };
-  }
+  references hold rel own ord inst refs par cells go place within n r g e = row-12-asks (r .ready) (r .marked) g e (r .refers)

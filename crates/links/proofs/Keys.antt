@@ -10,6 +10,7 @@ use lib.Dec.{eqb}
 use borrow.Author.Tests.{eqb-true, eqb-false, eq-eqb, ne-eqb}
 use Rattle.names.specs.Lists.{In, first, same, every}
 use Rattle.names.specs.Names.{text, nonZero, isBlank, isName, areNameCharacters}
+use Rattle.names.proofs.Names.{blank-zeros}
 use Rattle.names.proofs.Tests.{by-cases, not-both, both-ways, both, and-left, and-right}
 use Rattle.names.proofs.Lists.{same-true, eq-same, take-while}
 use Rattle.name_index.specs.Hash.{hashOf}
@@ -21,14 +22,6 @@ use Rattle.links.specs.Entries.{tagOf, tagAt, keyOf}
 use Rattle.links.proofs.Places.{known, known-kind}
 
 -- ---- a name field, by its text
-blank-zeros : (f : List ℕ) → isBlank f ≡ true → f ≡ replicate (length f) 0
-unfolding isBlank
-blank-zeros [] e = refl
-blank-zeros (x ∷ f) e =
-    by-cases (eqb 0 x)
-    (λ h. let z : 0 ≡ x = eqb-true 0 x h in let r : f ≡ replicate (length f) 0 = blank-zeros f (rw (h, every) at e) in cc)
-    (λ h. not-both e (rw (h, every)))
-
 -- a name and zeros
 name-field : (f : List ℕ) → isName f ≡ true → f ≡ text f ++ replicate (length (drop (length (text f)) f)) 0
 unfolding isName text

@@ -3,7 +3,7 @@
 use Prim.Native.Nat.{_*_, _+_, _<_, _≤_, ℕ}
 use borrow.Author.Tests.{eqb-false, eqb-true}
 use lib.Dec.{eqb}
-use lib.ListN.{getD, length, set}
+use lib.ListN.{getD, length, length-set, set}
 use lib.Seq.{getD-set-other, getD-set-same}
 use mathlib.Core.Bool.{false, true}
 use mathlib.Core.List.{List, []}
@@ -24,12 +24,12 @@ use Rattle.tree.proofs.Nodes.{element-holder, in-tree, node-eq}
 use Rattle.tree.proofs.Numbering.{number-few, number-inj}
 use Rattle.marks.specs.Cells.{Ready}
 use Rattle.marks.specs.Elements.{Elements}
-use Rattle.marks.specs.Listing.{Counted, Entry, Listed}
+use Rattle.marks.specs.Listing.{Listable, Entry, Listed}
 use Rattle.marks.proofs.StepTable.{Done}
 
 -- what the passes over marks and ports require is enough
-pub ready-counted : {s : Recipe} {hold rel own ord inst : List ℕ} {n : ℕ} → Ready s hold rel own ord inst n → Counted s hold ord inst n
-ready-counted R = record {
+pub ready-listable : {s : Recipe} {hold rel own ord inst : List ℕ} {n : ℕ} → Ready s hold rel own ord inst n → Listable s hold ord inst n
+ready-listable R = record {
   narrow = R .narrow;
   short = R .short;
   whole = R .whole;
@@ -52,7 +52,7 @@ module _ (s : Recipe) where
   not-model p e = rw (element-kind p e)
 
 -- ---- an element record in one instance
-module _ (s : Recipe) (hold ord inst : List ℕ) (n : ℕ) (C : Counted s hold ord inst n) (p : ℕ) (here : In p (places s)) (sort : isElement s p ≡ true) where
+module _ (s : Recipe) (hold ord inst : List ℕ) (n : ℕ) (C : Listable s hold ord inst n) (p : ℕ) (here : In p (places s)) (sort : isElement s p ≡ true) where
   pub element-low : p < 16384
   element-low = omega (arith, place-low s p here, C .short)
 
@@ -80,7 +80,7 @@ module _ (s : Recipe) (hold ord inst : List ℕ) (n : ℕ) (C : Counted s hold o
     this-few = omega (arith, this-number, number-few s (C .small) this this-in)
 
     -- it is entered
-    pub done-hold : (a b : List ℕ) {f o : ℕ} → f ≡ getD inst (5 * i + 2) 0 → o ≡ getD ord p 0 → length a ≡ 1024 → length b ≡ 1024
+    done-hold : (a b : List ℕ) {f o : ℕ} → f ≡ getD inst (5 * i + 2) 0 → o ≡ getD ord p 0 → length a ≡ 1024 → length b ≡ 1024
         → Listed s (Done s p i) a b → Listed s (Done s p (i + 1)) (set a (f + o) p) (set b (f + o) i)
     unfolding node
     done-hold a b {f} {o} rf ro la lb L x j d =
@@ -106,6 +106,10 @@ module _ (s : Recipe) (hold ord inst : List ℕ) (n : ℕ) (C : Counted s hold o
       where
         below : (m k : ℕ) → m < k + 1 → (m ≡ k → ⊥) → m < k
         below m k v w = omega arith
+
+    pub entered : (a b : List ℕ) {f o : ℕ} → f ≡ getD inst (5 * i + 2) 0 → o ≡ getD ord p 0 → length a ≡ 1024 → length b ≡ 1024 → Listed s (Done s p i) a b
+        → (length (set a (f + o) p) ≡ 1024) × ((length (set b (f + o) i) ≡ 1024) × Listed s (Done s p (i + 1)) (set a (f + o) p) (set b (f + o) i))
+    entered a b {f} {o} rf ro la lb L = (length-set a (f + o) p ∙ la, (length-set b (f + o) i ∙ lb, done-hold a b rf ro la lb L))
 
   pub done-start : (a b : List ℕ) → Listed s (λ x. x .place < p) a b → Listed s (Done s p 0) a b
   done-start a b L x j d =

@@ -26,20 +26,29 @@ use Rattle.tree.proofs.ByRecord.{by-none, by-record}
 use Rattle.tree.proofs.Nodes.{reference-in}
 use Rattle.tree.proofs.Numbering.{number-few, number-inj}
 use Rattle.tree.proofs.Resolving.{not-zero}
+use Rattle.marks.specs.Cells.{Ready}
+use Rattle.marks.specs.Elements.{Elements}
 use Rattle.marks.specs.Faults.{isReference, isReferenceFault}
-use Rattle.marks.specs.Gone.{Element, GoneAt}
-use Rattle.marks.specs.Listing.{Counted}
+use Rattle.marks.specs.Gone.{Element, GoneAt, Marked}
+use Rattle.marks.specs.Listing.{Listable}
 use Rattle.marks.specs.Marks.{chainEnd, isGone, survivors}
-use Rattle.marks.specs.References.{FaultAt, Judged, PlacesAre, UnfitAt, misrefers}
-use Rattle.marks.specs.Steps.{EndsAt, Numbers}
+use Rattle.marks.specs.References.{FaultAt, Judged, PlacesAre, References, UnfitAt, misrefers}
+use Rattle.marks.specs.Steps.{EndsAt, Numbers, StepsAre}
 use Rattle.marks.proofs.Chain.{chain-in}
 use Rattle.marks.proofs.EachInstance.{no-instance, one-instance}
-use Rattle.marks.proofs.Listing.{definition-is, element-kind, element-place, not-model, this-in, this-number}
+use Rattle.marks.proofs.Listing.{definition-is, element-kind, element-place, not-model, ready-listable, this-in, this-number}
 use Rattle.marks.proofs.Survivors.{survives, survivor}
 
 -- the element at p, in the instance at the path z, survives, and its reference is at fault
 abbrev pub wrong : Recipe → ℕ → List ℕ → Bool
 wrong s p z = eqb (definitionAt s z) (holder s p) && (not (isGone s (node z p)) && isReferenceFault s (node z p))
+
+-- what row 12 requires, from what the calls before it promise
+pub references : {s : Recipe} {hold rel own ord inst refs par cells go place within : List ℕ} {n : ℕ} → Ready s hold rel own ord inst n → Marked s cells ord par
+    → StepsAre s go → Elements s place within
+    → ((e : ℕ) → In e (places s) → isElement s e ≡ true → getD refs e 0 ≡ Option·getD (elementIn s e (referenceField s e)) 0)
+    → References s hold ord inst n refs par cells go place
+references R M G E r = record { listable = ready-listable R; judged = record { narrow = R .narrow; marked = M; steps = G; placed = E .places; refers = r } }
 
 module _ (s : Recipe) where
   -- the reference field of an element is in the recipe
@@ -79,7 +88,7 @@ module _ (s : Recipe) where
   wrong-start p i k = of-tree p ∙ by-record s (isElement s) p i (not-model s p k) k (λ x. not (isGone s x) && isReferenceFault s x)
 
 -- ---- an element record in one instance
-module _ (s : Recipe) (hold ord inst : List ℕ) (n : ℕ) (C : Counted s hold ord inst n) (p : ℕ) (here : In p (places s)) (sort : isElement s p ≡ true) where
+module _ (s : Recipe) (hold ord inst : List ℕ) (n : ℕ) (C : Listable s hold ord inst n) (p : ℕ) (here : In p (places s)) (sort : isElement s p ≡ true) where
   pub wrong-other : (i : ℕ) → i < n → (getD inst (5 * i) 0 ≡ getD hold p 0 → ⊥) → any (wrong s p) (drop i (instances s)) ≡ any (wrong s p) (drop (i + 1) (instances s))
   wrong-other i h e =
       one-instance s inst n (C .tree) (wrong s p) i h

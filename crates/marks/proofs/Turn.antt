@@ -25,6 +25,7 @@ use Rattle.tree.specs.Numbers.{ahead, firstAt, firstBelow, number, numberIn, or
 use Rattle.tree.specs.Tree.{Node, definitionAt, definitionBelow, instances, node, target}
 use Rattle.tree.proofs.Instances.{below-append, depth}
 use Rattle.tree.proofs.Numbering.{number-few}
+use Rattle.tree.proofs.Trees.{first-append}
 use Rattle.marks.specs.Cells.{Cells, Ready, aimNumber, asks, goneCell, isSet, markCell, meets, ownerCell, portCell, stamped, stamps}
 use Rattle.marks.specs.Faults.{conflictsWithEarlier}
 use Rattle.marks.specs.Marks.{conflict, from, owner, treePointers}
@@ -36,16 +37,11 @@ use Rattle.marks.proofs.Relations.{aimed-is}
 
 -- ---- the numbers of targets and owners, from those of their instance
 module _ (s : Recipe) where
-  first-append : (d : ℕ) (p q : List ℕ) → firstBelow s d (p ++ q) ≡ firstBelow s d p + firstBelow s (definitionBelow s d p) q
-  unfolding firstBelow definitionBelow
-  first-append d [] q = omega arith
-  first-append d (m ∷ p) q = ap (λ (j : ℕ). ahead s d m + j) (first-append _ p q) ∙ omega arith
-
   -- an element seen from an instance
   pub number-from : (path : List ℕ) (t : Node) → number s (from path t) ≡ firstAt s path + numberIn s (definitionAt s path) t
   unfolding number from node firstAt definitionAt numberIn
   number-from path t =
-      omega (arith, first-append main path (t .path), ap (λ (d : ℕ). order s d (t .place)) (below-append s main path (t .path)))
+      omega (arith, first-append s main path (t .path), ap (λ (d : ℕ). order s d (t .place)) (below-append s main path (t .path)))
 
   reach-is : (p : ℕ) (t : Node) → target s p ≡ some t → reach s p ≡ numberIn s (holder s p) t
   unfolding reach

@@ -14,7 +14,7 @@ use Rattle.tree.specs.Numbers.{Instances, number, order}
 use Rattle.tree.specs.Tree.{Node, instances, treeElements}
 
 -- rows 1, 2 and 7 are clear; by a record's place its definition, by an element's place its number in its definition, and the instances
-pub record Counted (s : Recipe) (hold ord inst : List ℕ) (n : ℕ) : Type 0 where
+pub record Listable (s : Recipe) (hold ord inst : List ℕ) (n : ℕ) : Type 0 where
   pub narrow : s .width ≤ 65536
   pub short : length (s .bytes) ≤ 16384
   pub whole : stop s ≡ length (s .bytes)

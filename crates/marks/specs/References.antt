@@ -15,7 +15,7 @@ use Rattle.tree.specs.Numbers.{number}
 use Rattle.tree.specs.Tree.{Node, treeElements}
 use Rattle.marks.specs.Faults.{isReferenceFault}
 use Rattle.marks.specs.Gone.{Marked}
-use Rattle.marks.specs.Listing.{Counted}
+use Rattle.marks.specs.Listing.{Listable}
 use Rattle.marks.specs.Marks.{isGone, survivors}
 use Rattle.marks.specs.Steps.{StepsAre}
 
@@ -38,7 +38,7 @@ pub record Judged (s : Recipe) (ord refs par cells go place : List ℕ) : Type 0
 
 -- what row 12 requires
 pub record References (s : Recipe) (hold ord inst : List ℕ) (n : ℕ) (refs par cells go place : List ℕ) : Type 0 where
-  pub counted : Counted s hold ord inst n
+  pub listable : Listable s hold ord inst n
   pub judged : Judged s ord refs par cells go place
 
 -- b says whether the element of number z is no fit end of a chain, for a reference of class c

@@ -19,7 +19,7 @@ ghost use Rattle.marks.specs.Faults.{conflictsWithEarlier, fault₉, aim
 ghost use Rattle.marks.specs.Cells.{anySet, isSet, ownerCell, goneCell, Cells, Ready, meets, stamped};
 ghost use Rattle.marks.specs.Gone.{Element, Marked, GoneAt};
 ghost use Rattle.marks.specs.Elements.{Elements};
-ghost use Rattle.marks.specs.Listing.{Counted, Listed};
+ghost use Rattle.marks.specs.Listing.{Listable, Listed};
 ghost use Rattle.marks.specs.References.{PlacesAre, Judged, References, misrefers, UnfitAt, FaultAt};
 ghost use Rattle.marks.specs.Steps.{isStep, Went, Clear, stepped, stepOf, StepsAre, Numbers, EndsAt};
 use names::Found;
@@ -397,7 +397,7 @@ fn elements_at(
     place: &mut [u16; 1024],
     within: &mut [u16; 1024],
 )
-    requires { ⌜ Counted (record { width = w; bytes = now s }) (now hold) (now ord) (now inst) n × (In p (places (record { width = w; bytes = now s })) × ((isElement (record { width = w; bytes = now s }) p ≡ true) × (Listed (record { width = w; bytes = now s }) (λ x. x .place < p) (now place) (now within) × ((length (now place) ≡ 1024) × (length (now within) ≡ 1024))))) ⌝ }
+    requires { ⌜ Listable (record { width = w; bytes = now s }) (now hold) (now ord) (now inst) n × (In p (places (record { width = w; bytes = now s })) × ((isElement (record { width = w; bytes = now s }) p ≡ true) × (Listed (record { width = w; bytes = now s }) (λ x. x .place < p) (now place) (now within) × ((length (now place) ≡ 1024) × (length (now within) ≡ 1024))))) ⌝ }
     ensures { λ _. ⌜ Listed (record { width = w; bytes = now (s .entry) }) (λ x. x .place < next (record { width = w; bytes = now (s .entry) }) p) (now (place .exit)) (now (within .exit)) × ((length (now (place .exit)) ≡ 1024) × (length (now (within .exit)) ≡ 1024)) ⌝ }
 {
     let h = hold[p];
@@ -426,7 +426,7 @@ pub fn list_elements(
     place: &mut [u16; 1024],
     within: &mut [u16; 1024],
 )
-    requires { ⌜ Counted (record { width = w; bytes = now s }) (now hold) (now ord) (now inst) n × ((length (now place) ≡ 1024) × (length (now within) ≡ 1024)) ⌝ }
+    requires { ⌜ Listable (record { width = w; bytes = now s }) (now hold) (now ord) (now inst) n × ((length (now place) ≡ 1024) × (length (now within) ≡ 1024)) ⌝ }
     ensures { λ _. ⌜ Elements (record { width = w; bytes = now (s .entry) }) (now (place .exit)) (now (within .exit)) ⌝ }
 {
     let mut p = 0;

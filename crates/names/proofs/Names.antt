@@ -307,6 +307,15 @@ pub text-padded : (w : ℕ) (n : List ℕ) → areNameCharacters n ≡ true → 
 unfolding padded
 text-padded w n e = text-append n (replicate (w - length n) 0) (characters-others n e) (zeros-text (w - length n))
 
+-- a blank is zeros
+pub blank-zeros : (f : List ℕ) → isBlank f ≡ true → f ≡ replicate (length f) 0
+unfolding isBlank
+blank-zeros [] e = refl
+blank-zeros (x ∷ f) e =
+    by-cases (eqb 0 x)
+    (λ h. let z : 0 ≡ x = eqb-true 0 x h in let r : f ≡ replicate (length f) 0 = blank-zeros f (rw (h, every) at e) in cc)
+    (λ h. not-both e (rw (h, every)))
+
 -- zeros are a blank, and a padded name is a name
 pub blank-padded : (w : ℕ) → isBlank (padded w []) ≡ true
 unfolding isBlank padded

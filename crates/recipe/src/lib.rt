@@ -1,4 +1,4 @@
-// Recipes: their records and definitions, and the refusals 1 to 6.
+// Recipes: their records, and the refusals 1 to 3.
 // For the floors above: length_fault, record_length, is_readable, reading_stop, read_record, first_unformed. They take the name width w, which is 12.
 ghost use mathlib.Core.Path.{_≡_};
 ghost use mathlib.Core.Bool.{true};

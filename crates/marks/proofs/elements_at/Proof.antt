@@ -1,12 +1,12 @@
 -- `marks::elements_at` meets its contract: the instances passed have the element in the tables.
 -- Assumes nothing.
-use Prim.Native.Nat.{_+_, _-_}
-use lib.ListN.{length, length-set}
-use mathlib.Core.Path.{_∙_, _≡_}
+use Prim.Native.Nat.{_-_}
+use lib.ListN.{length}
+use mathlib.Core.Path.{_≡_}
 use native.Mathlib.Omega.{arith}
 use Rattle.recipe.proofs.Going.{here}
 use Rattle.marks.specs.Listing.{Listed}
-use Rattle.marks.proofs.Listing.{done-end, done-hold, done-other, done-start, element-low, this-few}
+use Rattle.marks.proofs.Listing.{done-end, done-other, done-start, element-low, entered, this-few}
 use Rattle.marks.proofs.StepTable.{Done}
 use Rattle.marks.proofs.elements_at.Statement.{statement}
 use Rattle.marks.proofs.elements_at.Tie as tie
@@ -153,7 +153,7 @@ loop-again c =
     let C = c .before .before .before .before .before .before .before .before .before .before .pre .0 in
     let here = c .before .before .before .before .before .before .before .before .before .before .pre .1 .0 in
     let el = c .before .before .before .before .before .before .before .before .before .before .pre .1 .1 .0 in
-    (length-set (c .before .before .before .before .before .loop .place) (c .wide2 .result + c .before .before .before .before .before .before .wide .result) (a .p) ∙ c .before .before .before .before .before .loop .inv .0, (length-set (c .before .before .before .before .before .loop .within) (c .wide2 .result + c .before .before .before .before .before .before .wide .result) (c .before .before .before .before .before .loop .i) ∙ c .before .before .before .before .before .loop .inv .1 .0, done-hold (record { width = a .w; bytes = a .s .now }) (a .hold .now) (a .ord .now) (a .inst .now) (a .n) C (a .p) here el (c .before .before .before .before .before .loop .i) (c .before .before .before .before .loop-test .taken) (c .before .before .if1 .taken) (c .before .before .before .before .before .loop .place) (c .before .before .before .before .before .loop .within) (c .wide2 .ensures .0) (c .before .before .before .before .before .before .wide .ensures .0) (c .before .before .before .before .before .loop .inv .0) (c .before .before .before .before .before .loop .inv .1 .0) (c .before .before .before .before .before .loop .inv .1 .1)))
+    entered (record { width = a .w; bytes = a .s .now }) (a .hold .now) (a .ord .now) (a .inst .now) (a .n) C (a .p) here el (c .before .before .before .before .before .loop .i) (c .before .before .before .before .loop-test .taken) (c .before .before .if1 .taken) (c .before .before .before .before .before .loop .place) (c .before .before .before .before .before .loop .within) (c .wide2 .ensures .0) (c .before .before .before .before .before .before .wide .ensures .0) (c .before .before .before .before .before .loop .inv .0) (c .before .before .before .before .before .loop .inv .1 .0) (c .before .before .before .before .before .loop .inv .1 .1)
 
 add-i-2 : tie.Need-add-i-2 Inv-loop μ-loop
 add-i-2 c = omega (arith, c .before .before .before .before .before .before .before .before .pre .0 .tree .few)

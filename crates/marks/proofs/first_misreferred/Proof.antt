@@ -35,7 +35,7 @@ misreferred-at-requires c κs =
     let a = c .before .before .before .before .before .args in
     let R = c .before .before .before .before .before .pre in
     let l = c .before .before .before .loop in
-    let h = here (record { width = a .w; bytes = a .s .now }) (misrefers (record { width = a .w; bytes = a .s .now })) (l .p) (R .counted .whole) (l .inv .1) (c .before .before .loop-test .taken) in
+    let h = here (record { width = a .w; bytes = a .s .now }) (misrefers (record { width = a .w; bytes = a .s .now })) (l .p) (R .listable .whole) (l .inv .1) (c .before .before .loop-test .taken) in
     (R, (h .place, eq-eqb _ 2 (c .if1 .taken)))
 
 returns : tie.Need-returns Inv-loop μ-loop
@@ -44,11 +44,11 @@ returns c =
     let a = c .before .before .before .before .before .before .before .args in
     let R = c .before .before .before .before .before .before .before .pre in
     let l = c .before .before .before .before .before .loop in
-    let h = here (record { width = a .w; bytes = a .s .now }) (misrefers (record { width = a .w; bytes = a .s .now })) (l .p) (R .counted .whole) (l .inv .1) (c .before .before .before .before .loop-test .taken) in
+    let h = here (record { width = a .w; bytes = a .s .now }) (misrefers (record { width = a .w; bytes = a .s .now })) (l .p) (R .listable .whole) (l .inv .1) (c .before .before .before .before .loop-test .taken) in
     at-found (going-hit h (sym (c .before .misreferred-at .ensures) ∙ c .if2 .taken))
 
 record-length-requires : tie.Need-record-length-requires Inv-loop μ-loop
-record-length-requires c κs = c .before .before .before .before .before .before .before .pre .counted .narrow
+record-length-requires c κs = c .before .before .before .before .before .before .before .pre .listable .narrow
 
 add-p : tie.Need-add-p Inv-loop μ-loop
 unfolding next kind
@@ -56,7 +56,7 @@ add-p c =
     let a = c .before .before .before .before .before .before .before .before .args in
     let R = c .before .before .before .before .before .before .before .before .pre in
     let l = c .before .before .before .before .before .before .loop in
-    let h = here (record { width = a .w; bytes = a .s .now }) (misrefers (record { width = a .w; bytes = a .s .now })) (l .p) (R .counted .whole) (l .inv .1) (c .before .before .before .before .before .loop-test .taken) in
+    let h = here (record { width = a .w; bytes = a .s .now }) (misrefers (record { width = a .w; bytes = a .s .now })) (l .p) (R .listable .whole) (l .inv .1) (c .before .before .before .before .before .loop-test .taken) in
     omega (arith, here-fits h, c .record-length .ensures)
 
 loop-less : tie.Need-loop-less Inv-loop μ-loop
@@ -65,7 +65,7 @@ loop-less c =
     let a = c .before .before .before .before .before .before .before .before .args in
     let R = c .before .before .before .before .before .before .before .before .pre in
     let l = c .before .before .before .before .before .before .loop in
-    let h = here (record { width = a .w; bytes = a .s .now }) (misrefers (record { width = a .w; bytes = a .s .now })) (l .p) (R .counted .whole) (l .inv .1) (c .before .before .before .before .before .loop-test .taken) in
+    let h = here (record { width = a .w; bytes = a .s .now }) (misrefers (record { width = a .w; bytes = a .s .now })) (l .p) (R .listable .whole) (l .inv .1) (c .before .before .before .before .before .loop-test .taken) in
     omega (arith, here-fits h, c .record-length .ensures, next-more (record { width = a .w; bytes = a .s .now }) (l .p))
 
 loop-again : tie.Need-loop-again Inv-loop μ-loop
@@ -74,11 +74,11 @@ loop-again c =
     let a = c .before .before .before .before .before .before .before .before .args in
     let R = c .before .before .before .before .before .before .before .before .pre in
     let l = c .before .before .before .before .before .before .loop in
-    let h = here (record { width = a .w; bytes = a .s .now }) (misrefers (record { width = a .w; bytes = a .s .now })) (l .p) (R .counted .whole) (l .inv .1) (c .before .before .before .before .before .loop-test .taken) in
+    let h = here (record { width = a .w; bytes = a .s .now }) (misrefers (record { width = a .w; bytes = a .s .now })) (l .p) (R .listable .whole) (l .inv .1) (c .before .before .before .before .before .loop-test .taken) in
     rw (c .record-length .ensures) (here-fits h, going-more h (sym (c .before .before .misreferred-at .ensures) ∙ c .before .if2 .left))
 
 record-length-requires-2 : tie.Need-record-length-requires-2 Inv-loop μ-loop
-record-length-requires-2 c κs = c .before .before .before .before .before .pre .counted .narrow
+record-length-requires-2 c κs = c .before .before .before .before .before .pre .listable .narrow
 
 add-p-2 : tie.Need-add-p-2 Inv-loop μ-loop
 unfolding next kind
@@ -86,7 +86,7 @@ add-p-2 c =
     let a = c .before .before .before .before .before .before .args in
     let R = c .before .before .before .before .before .before .pre in
     let l = c .before .before .before .before .loop in
-    let h = here (record { width = a .w; bytes = a .s .now }) (misrefers (record { width = a .w; bytes = a .s .now })) (l .p) (R .counted .whole) (l .inv .1) (c .before .before .before .loop-test .taken) in
+    let h = here (record { width = a .w; bytes = a .s .now }) (misrefers (record { width = a .w; bytes = a .s .now })) (l .p) (R .listable .whole) (l .inv .1) (c .before .before .before .loop-test .taken) in
     omega (arith, here-fits h, c .record-length2 .ensures)
 
 loop-less-2 : tie.Need-loop-less-2 Inv-loop μ-loop
@@ -95,7 +95,7 @@ loop-less-2 c =
     let a = c .before .before .before .before .before .before .args in
     let R = c .before .before .before .before .before .before .pre in
     let l = c .before .before .before .before .loop in
-    let h = here (record { width = a .w; bytes = a .s .now }) (misrefers (record { width = a .w; bytes = a .s .now })) (l .p) (R .counted .whole) (l .inv .1) (c .before .before .before .loop-test .taken) in
+    let h = here (record { width = a .w; bytes = a .s .now }) (misrefers (record { width = a .w; bytes = a .s .now })) (l .p) (R .listable .whole) (l .inv .1) (c .before .before .before .loop-test .taken) in
     omega (arith, here-fits h, c .record-length2 .ensures, next-more (record { width = a .w; bytes = a .s .now }) (l .p))
 
 loop-again-2 : tie.Need-loop-again-2 Inv-loop μ-loop
@@ -104,7 +104,7 @@ loop-again-2 c =
     let a = c .before .before .before .before .before .before .args in
     let R = c .before .before .before .before .before .before .pre in
     let l = c .before .before .before .before .loop in
-    let h = here (record { width = a .w; bytes = a .s .now }) (misrefers (record { width = a .w; bytes = a .s .now })) (l .p) (R .counted .whole) (l .inv .1) (c .before .before .before .loop-test .taken) in
+    let h = here (record { width = a .w; bytes = a .s .now }) (misrefers (record { width = a .w; bytes = a .s .now })) (l .p) (R .listable .whole) (l .inv .1) (c .before .before .before .loop-test .taken) in
     rw (c .record-length2 .ensures) (here-fits h, going-more h (not-wrong (record { width = a .w; bytes = a .s .now }) (l .p) (ne-eqb _ 2 (c .before .if1 .left))))
 
 returns-2 : tie.Need-returns-2 Inv-loop μ-loop

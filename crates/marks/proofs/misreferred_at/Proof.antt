@@ -27,7 +27,7 @@ mul-h c =
     let R = c .before .pre .0 in
     let here = c .before .pre .1 .0 in
     let el = c .before .pre .1 .1 in
-    omega (arith, element-low (record { width = a .w; bytes = a .s .now }) (a .hold .now) (a .ord .now) (a .inst .now) (a .n) (R .counted) (a .p) here el)
+    omega (arith, element-low (record { width = a .w; bytes = a .s .now }) (a .hold .now) (a .ord .now) (a .inst .now) (a .n) (R .listable) (a .p) here el)
 
 element-copy-out-h : tie.Need-element-copy-out-h Inv-loop μ-loop
 element-copy-out-h c =
@@ -35,7 +35,7 @@ element-copy-out-h c =
     let R = c .before .pre .0 in
     let here = c .before .pre .1 .0 in
     let el = c .before .pre .1 .1 in
-    omega (arith, element-low (record { width = a .w; bytes = a .s .now }) (a .hold .now) (a .ord .now) (a .inst .now) (a .n) (R .counted) (a .p) here el)
+    omega (arith, element-low (record { width = a .w; bytes = a .s .now }) (a .hold .now) (a .ord .now) (a .inst .now) (a .n) (R .listable) (a .p) here el)
 
 mul-wide : tie.Need-mul-wide Inv-loop μ-loop
 mul-wide c =
@@ -43,7 +43,7 @@ mul-wide c =
     let R = c .before .before .pre .0 in
     let here = c .before .before .pre .1 .0 in
     let el = c .before .before .pre .1 .1 in
-    omega (arith, element-low (record { width = a .w; bytes = a .s .now }) (a .hold .now) (a .ord .now) (a .inst .now) (a .n) (R .counted) (a .p) here el)
+    omega (arith, element-low (record { width = a .w; bytes = a .s .now }) (a .hold .now) (a .ord .now) (a .inst .now) (a .n) (R .listable) (a .p) here el)
 
 element-copy-out-wide : tie.Need-element-copy-out-wide Inv-loop μ-loop
 element-copy-out-wide c =
@@ -51,7 +51,7 @@ element-copy-out-wide c =
     let R = c .before .before .pre .0 in
     let here = c .before .before .pre .1 .0 in
     let el = c .before .before .pre .1 .1 in
-    omega (arith, element-low (record { width = a .w; bytes = a .s .now }) (a .hold .now) (a .ord .now) (a .inst .now) (a .n) (R .counted) (a .p) here el)
+    omega (arith, element-low (record { width = a .w; bytes = a .s .now }) (a .hold .now) (a .ord .now) (a .inst .now) (a .n) (R .listable) (a .p) here el)
 
 wide-requires : tie.Need-wide-requires Inv-loop μ-loop
 wide-requires c κs = tt
@@ -64,25 +64,25 @@ loop-holds c =
     wrong-start (record { width = a .w; bytes = a .s .now }) (a .p) here el
 
 mul-if1 : tie.Need-mul-if1 Inv-loop μ-loop
-mul-if1 c = omega (arith, c .before .before .before .before .before .before .pre .0 .counted .tree .few)
+mul-if1 c = omega (arith, c .before .before .before .before .before .before .pre .0 .listable .tree .few)
 
 mul-if1-2 : tie.Need-mul-if1-2 Inv-loop μ-loop
-mul-if1-2 c = omega (arith, c .before .before .before .before .before .before .pre .0 .counted .tree .few)
+mul-if1-2 c = omega (arith, c .before .before .before .before .before .before .pre .0 .listable .tree .few)
 
 element-copy-out-if1 : tie.Need-element-copy-out-if1 Inv-loop μ-loop
-element-copy-out-if1 c = omega (arith, c .before .before .before .before .before .before .pre .0 .counted .tree .few)
+element-copy-out-if1 c = omega (arith, c .before .before .before .before .before .before .pre .0 .listable .tree .few)
 
 mul-wide-2 : tie.Need-mul-wide-2 Inv-loop μ-loop
-mul-wide-2 c = omega (arith, c .before .before .before .before .before .before .before .before .pre .0 .counted .tree .few)
+mul-wide-2 c = omega (arith, c .before .before .before .before .before .before .before .before .pre .0 .listable .tree .few)
 
 add-wide : tie.Need-add-wide Inv-loop μ-loop
-add-wide c = omega (arith, c .before .before .before .before .before .before .before .before .pre .0 .counted .tree .few)
+add-wide c = omega (arith, c .before .before .before .before .before .before .before .before .pre .0 .listable .tree .few)
 
 mul-wide-3 : tie.Need-mul-wide-3 Inv-loop μ-loop
-mul-wide-3 c = omega (arith, c .before .before .before .before .before .before .before .before .pre .0 .counted .tree .few)
+mul-wide-3 c = omega (arith, c .before .before .before .before .before .before .before .before .pre .0 .listable .tree .few)
 
 element-copy-out-wide-2 : tie.Need-element-copy-out-wide-2 Inv-loop μ-loop
-element-copy-out-wide-2 c = omega (arith, c .before .before .before .before .before .before .before .before .pre .0 .counted .tree .few)
+element-copy-out-wide-2 c = omega (arith, c .before .before .before .before .before .before .before .before .pre .0 .listable .tree .few)
 
 wide-requires-2 : tie.Need-wide-requires-2 Inv-loop μ-loop
 wide-requires-2 c κs = tt
@@ -93,7 +93,7 @@ add-is-gone c =
     let R = c .before .before .before .before .before .before .before .before .before .before .pre .0 in
     let here = c .before .before .before .before .before .before .before .before .before .before .pre .1 .0 in
     let el = c .before .before .before .before .before .before .before .before .before .before .pre .1 .1 in
-    omega (arith, wrong-few (record { width = a .w; bytes = a .s .now }) (a .hold .now) (a .ord .now) (a .inst .now) (a .n) (R .counted) (a .p) here el (c .before .before .before .before .before .loop .i) (c .wide2 .result) (c .before .before .before .before .loop-test .taken) (c .before .before .if1 .taken) (c .wide2 .ensures .0), c .before .before .before .before .before .before .wide .ensures .0)
+    omega (arith, wrong-few (record { width = a .w; bytes = a .s .now }) (a .hold .now) (a .ord .now) (a .inst .now) (a .n) (R .listable) (a .p) here el (c .before .before .before .before .before .loop .i) (c .wide2 .result) (c .before .before .before .before .loop-test .taken) (c .before .before .if1 .taken) (c .wide2 .ensures .0), c .before .before .before .before .before .before .wide .ensures .0)
 
 is-gone-requires : tie.Need-is-gone-requires Inv-loop μ-loop
 is-gone-requires c κs =
@@ -101,7 +101,7 @@ is-gone-requires c κs =
     let R = c .before .before .before .before .before .before .before .before .before .before .pre .0 in
     let here = c .before .before .before .before .before .before .before .before .before .before .pre .1 .0 in
     let el = c .before .before .before .before .before .before .before .before .before .before .pre .1 .1 in
-    (R .judged .marked, rw (c .before .before .before .before .before .before .wide .ensures .0) (wrong-element (record { width = a .w; bytes = a .s .now }) (a .hold .now) (a .ord .now) (a .inst .now) (a .n) (R .counted) (a .p) here el (c .before .before .before .before .before .loop .i) (c .wide2 .result) (c .before .before .before .before .loop-test .taken) (c .before .before .if1 .taken) (c .wide2 .ensures .0)))
+    (R .judged .marked, rw (c .before .before .before .before .before .before .wide .ensures .0) (wrong-element (record { width = a .w; bytes = a .s .now }) (a .hold .now) (a .ord .now) (a .inst .now) (a .n) (R .listable) (a .p) here el (c .before .before .before .before .before .loop .i) (c .wide2 .result) (c .before .before .before .before .loop-test .taken) (c .before .before .if1 .taken) (c .wide2 .ensures .0)))
 
 refers-wrongly-requires : tie.Need-refers-wrongly-requires Inv-loop μ-loop
 refers-wrongly-requires c κs =
@@ -109,7 +109,7 @@ refers-wrongly-requires c κs =
     let R = c .before .before .before .before .before .before .before .before .before .before .before .pre .0 in
     let here = c .before .before .before .before .before .before .before .before .before .before .before .pre .1 .0 in
     let el = c .before .before .before .before .before .before .before .before .before .before .before .pre .1 .1 in
-    (R .judged, wrong-element (record { width = a .w; bytes = a .s .now }) (a .hold .now) (a .ord .now) (a .inst .now) (a .n) (R .counted) (a .p) here el (c .before .before .before .before .before .before .loop .i) (c .before .wide2 .result) (c .before .before .before .before .before .loop-test .taken) (c .before .before .before .if1 .taken) (c .before .wide2 .ensures .0))
+    (R .judged, wrong-element (record { width = a .w; bytes = a .s .now }) (a .hold .now) (a .ord .now) (a .inst .now) (a .n) (R .listable) (a .p) here el (c .before .before .before .before .before .before .loop .i) (c .before .wide2 .result) (c .before .before .before .before .before .loop-test .taken) (c .before .before .before .if1 .taken) (c .before .wide2 .ensures .0))
 
 returns : tie.Need-returns Inv-loop μ-loop
 returns c =
@@ -117,10 +117,10 @@ returns c =
     let R = c .before .before .before .before .before .before .before .before .before .before .before .before .before .pre .0 in
     let here = c .before .before .before .before .before .before .before .before .before .before .before .before .before .pre .1 .0 in
     let el = c .before .before .before .before .before .before .before .before .before .before .before .before .before .pre .1 .1 in
-    sym (c .before .before .before .before .before .before .before .before .loop .inv ∙ wrong-hold (record { width = a .w; bytes = a .s .now }) (a .hold .now) (a .ord .now) (a .inst .now) (a .n) (R .counted) (a .p) here el (c .before .before .before .before .before .before .before .before .loop .i) (c .before .before .before .wide2 .result) (c .before .before .before .before .before .before .before .loop-test .taken) (c .before .before .before .before .before .if1 .taken) (c .before .before .before .wide2 .ensures .0) (rw (c .before .before .before .before .before .before .before .before .before .wide .ensures .0) at (c .before .before .is-gone .ensures)) (c .before .refers-wrongly .ensures) (c .if2 .taken))
+    sym (c .before .before .before .before .before .before .before .before .loop .inv ∙ wrong-hold (record { width = a .w; bytes = a .s .now }) (a .hold .now) (a .ord .now) (a .inst .now) (a .n) (R .listable) (a .p) here el (c .before .before .before .before .before .before .before .before .loop .i) (c .before .before .before .wide2 .result) (c .before .before .before .before .before .before .before .loop-test .taken) (c .before .before .before .before .before .if1 .taken) (c .before .before .before .wide2 .ensures .0) (rw (c .before .before .before .before .before .before .before .before .before .wide .ensures .0) at (c .before .before .is-gone .ensures)) (c .before .refers-wrongly .ensures) (c .if2 .taken))
 
 add-i : tie.Need-add-i Inv-loop μ-loop
-add-i c = omega (arith, c .before .before .before .before .before .before .before .before .before .before .before .before .before .pre .0 .counted .tree .few)
+add-i c = omega (arith, c .before .before .before .before .before .before .before .before .before .before .before .before .before .pre .0 .listable .tree .few)
 
 loop-less : tie.Need-loop-less Inv-loop μ-loop
 loop-less c = omega arith
@@ -131,10 +131,10 @@ loop-again c =
     let R = c .before .before .before .before .before .before .before .before .before .before .before .before .before .pre .0 in
     let here = c .before .before .before .before .before .before .before .before .before .before .before .before .before .pre .1 .0 in
     let el = c .before .before .before .before .before .before .before .before .before .before .before .before .before .pre .1 .1 in
-    c .before .before .before .before .before .before .before .before .loop .inv ∙ wrong-hold (record { width = a .w; bytes = a .s .now }) (a .hold .now) (a .ord .now) (a .inst .now) (a .n) (R .counted) (a .p) here el (c .before .before .before .before .before .before .before .before .loop .i) (c .before .before .before .wide2 .result) (c .before .before .before .before .before .before .before .loop-test .taken) (c .before .before .before .before .before .if1 .taken) (c .before .before .before .wide2 .ensures .0) (rw (c .before .before .before .before .before .before .before .before .before .wide .ensures .0) at (c .before .before .is-gone .ensures)) (c .before .refers-wrongly .ensures) (c .if2 .left)
+    c .before .before .before .before .before .before .before .before .loop .inv ∙ wrong-hold (record { width = a .w; bytes = a .s .now }) (a .hold .now) (a .ord .now) (a .inst .now) (a .n) (R .listable) (a .p) here el (c .before .before .before .before .before .before .before .before .loop .i) (c .before .before .before .wide2 .result) (c .before .before .before .before .before .before .before .loop-test .taken) (c .before .before .before .before .before .if1 .taken) (c .before .before .before .wide2 .ensures .0) (rw (c .before .before .before .before .before .before .before .before .before .wide .ensures .0) at (c .before .before .is-gone .ensures)) (c .before .refers-wrongly .ensures) (c .if2 .left)
 
 add-i-2 : tie.Need-add-i-2 Inv-loop μ-loop
-add-i-2 c = omega (arith, c .before .before .before .before .before .before .before .before .pre .0 .counted .tree .few)
+add-i-2 c = omega (arith, c .before .before .before .before .before .before .before .before .pre .0 .listable .tree .few)
 
 loop-less-2 : tie.Need-loop-less-2 Inv-loop μ-loop
 loop-less-2 c = omega arith
@@ -145,7 +145,7 @@ loop-again-2 c =
     let R = c .before .before .before .before .before .before .before .before .pre .0 in
     let here = c .before .before .before .before .before .before .before .before .pre .1 .0 in
     let el = c .before .before .before .before .before .before .before .before .pre .1 .1 in
-    c .before .before .before .loop .inv ∙ wrong-other (record { width = a .w; bytes = a .s .now }) (a .hold .now) (a .ord .now) (a .inst .now) (a .n) (R .counted) (a .p) here el (c .before .before .before .loop .i) (c .before .before .loop-test .taken) (c .if1 .left)
+    c .before .before .before .loop .inv ∙ wrong-other (record { width = a .w; bytes = a .s .now }) (a .hold .now) (a .ord .now) (a .inst .now) (a .n) (R .listable) (a .p) here el (c .before .before .before .loop .i) (c .before .before .loop-test .taken) (c .if1 .left)
 
 returns-2 : tie.Need-returns-2 Inv-loop μ-loop
 returns-2 c =
@@ -153,7 +153,7 @@ returns-2 c =
     let R = c .before .before .before .before .before .before .pre .0 in
     let here = c .before .before .before .before .before .before .pre .1 .0 in
     let el = c .before .before .before .before .before .before .pre .1 .1 in
-    sym (c .before .loop .inv ∙ wrong-end (record { width = a .w; bytes = a .s .now }) (a .hold .now) (a .ord .now) (a .inst .now) (a .n) (R .counted) (a .p) here el (c .before .loop .i) (c .loop-test .left))
+    sym (c .before .loop .inv ∙ wrong-end (record { width = a .w; bytes = a .s .now }) (a .hold .now) (a .ord .now) (a .inst .now) (a .n) (R .listable) (a .p) here el (c .before .loop .i) (c .loop-test .left))
 
 pub misreferred-at-spec : {M : Type 1} → statement M
 misreferred-at-spec =
