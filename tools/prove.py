@@ -134,17 +134,26 @@ def unused(crate, write):
         text = open(path).read()
         body = re.sub(r"(?m)^use .*$", "", text)
 
-        def is_word(name):
-            return re.search(r"(?<![\w\-·])%s(?![\w\-·′])" % re.escape(name), body)
+        def is_used(imported):
+            name = imported.split(" as ")[-1]
+            word = r"(?<![\w\-·])%s(?![\w\-·′])" % re.escape(name.strip("_"))
+            return (name != name.strip("_") and name in body) or re.search(word, body)
 
         def keep(m):
-            used = [n for n in m.group(2).split(", ") if (n != n.strip("_") and n in body) or is_word(n.strip("_"))]
+            used = [n for n in m.group(2).split(", ") if is_used(n)]
             dropped = [n for n in m.group(2).split(", ") if n not in used]
             if dropped:
                 print(path, *dropped)
             return "use %s.{%s}\n" % (m.group(1), ", ".join(used)) if used else ""
 
+        def keep_module(m):
+            if is_used(m.group(1)):
+                return m.group(0)
+            print(path, m.group(1))
+            return ""
+
         kept = re.sub(r"(?m)^use (\S+)\.\{(.*)\}\n", keep, text)
+        kept = re.sub(r"(?m)^use [^\s{]+ as (\S+)\n", keep_module, kept)
         if write and kept != text:
             with open(path, "w") as file:
                 file.write(kept)

@@ -9,12 +9,12 @@ use mathlib.Core.Bool.{true, not, _&&_}
 use mathlib.Core.List.{List, [], _∷_, _++_, append-assoc}
 use lib.ListN.{length, getD, set, take, drop, replicate, length-append, length-set, length-drop, length-replicate, replicate-append-replicate, take-append-drop}
 use lib.Seq.{sets, take-suc, getD-drop, length-take-le}
-use lib.Dec.{eqb, ltb}
+use lib.Dec.{ltb}
 use borrow.Author.Tests.{eqb-true, ltb-false, not-false}
-use Rattle.names.specs.Lists.{In, every, padded}
+use Rattle.names.specs.Lists.{In, padded}
 use Rattle.names.specs.Names.{text, nonZero, isBlank, isName, isNameOrBlank, areNameCharacters, fieldAt}
 use Rattle.names.proofs.Names.{blank-zeros}
-use Rattle.names.proofs.Tests.{by-cases, not-both, and-left, and-right, or-none-left}
+use Rattle.names.proofs.Tests.{and-left, and-right, or-none-left}
 use Rattle.names.proofs.Lists.{none-first, take-while, getD-in}
 use Rattle.flat_table.specs.Classes.{isClass}
 use Rattle.flat_table.specs.Table.{flatWidth}

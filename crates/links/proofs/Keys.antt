@@ -2,16 +2,16 @@
 -- Assumes nothing.
 use mathlib.Core.Path.{_≡_, refl, sym, ap, _∙_}
 use mathlib.Core.Bool.{Bool, true, false, cond, _&&_, _||_}
-use mathlib.Core.List.{List, [], _∷_, _++_}
+use mathlib.Core.List.{List, _∷_, _++_}
 use Prim.Native.Nat.{ℕ, zero, suc, _+_, _*_, _%_, _≤_, _<_}
 use native.Mathlib.Omega.{arith}
 use lib.ListN.{length, drop, replicate, length-drop, take-append-drop}
 use lib.Dec.{eqb}
 use borrow.Author.Tests.{eqb-true, eqb-false, eq-eqb, ne-eqb}
-use Rattle.names.specs.Lists.{In, first, same, every}
+use Rattle.names.specs.Lists.{In, first, same}
 use Rattle.names.specs.Names.{text, nonZero, isBlank, isName, areNameCharacters}
 use Rattle.names.proofs.Names.{blank-zeros}
-use Rattle.names.proofs.Tests.{by-cases, not-both, both-ways, both, and-left, and-right}
+use Rattle.names.proofs.Tests.{by-cases, both-ways, both, and-left, and-right}
 use Rattle.names.proofs.Lists.{same-true, eq-same, take-while}
 use Rattle.name_index.specs.Hash.{hashOf}
 use Rattle.recipe.specs.Records.{Recipe, kind, places, isModel, isElement, isPort, isSubmodel, isReplacedBy, field, name}

@@ -6,7 +6,7 @@ use lib.Dec.{eqb, ltb}
 use lib.ListN.{drop, getD, length, length-set, set}
 use lib.Seq.{getD-set-other, getD-set-same}
 use mathlib.Core.Bool.{Bool, _&&_, _||_, false, or-assoc, or-false, or-true, true}
-use mathlib.Core.List.{List, [], _++_, _∷_}
+use mathlib.Core.List.{List, [], _∷_}
 use mathlib.Core.Logic.{_⊎_, inr, ⊎-elim}
 use mathlib.Core.Option.{none, some}
 use mathlib.Core.Path.{_∙_, _≡_, ap, sym}
@@ -21,8 +21,8 @@ use Rattle.recipe.proofs.Going.{here}
 use Rattle.recipe.proofs.Reading.{place-low}
 use Rattle.recipe.proofs.Rows.{owner-element}
 use Rattle.tree.specs.Faults.{fault₈}
-use Rattle.tree.specs.Numbers.{ahead, firstAt, firstBelow, number, numberIn, order, reach}
-use Rattle.tree.specs.Tree.{Node, definitionAt, definitionBelow, instances, node, target}
+use Rattle.tree.specs.Numbers.{firstAt, number, numberIn, order, reach}
+use Rattle.tree.specs.Tree.{Node, definitionAt, instances, node, target}
 use Rattle.tree.proofs.Instances.{below-append, depth}
 use Rattle.tree.proofs.Numbering.{number-few}
 use Rattle.tree.proofs.Trees.{first-append}

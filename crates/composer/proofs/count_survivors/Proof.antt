@@ -6,7 +6,6 @@ use Rattle.composer.proofs.ByNumber.{elements-few}
 use Rattle.composer.proofs.Writing.{Counting, counting-end, counting-gone, counting-start, counting-survivor}
 use Rattle.composer.proofs.count_survivors.Statement.{statement}
 use Rattle.composer.proofs.count_survivors.Tie as tie
-use Rattle.composer.proofs.gone_at.Reads as gone-at-reads
 
 abbrev Inv-loop : tie.InvT-loop
 Inv-loop s w cells ord par place total e₀ n₀ e n = Counting (record { width = w; bytes = s }) total e n

@@ -6,9 +6,6 @@ use Rattle.composer.proofs.Joining.{read-keeps, read-refuses}
 use borrow.Author.Needs.{needs}
 use Rattle.composer.proofs.flatten.Statement.{statement}
 use Rattle.composer.proofs.flatten.Tie as tie
-use Rattle.composer.proofs.flatten_read.Reads as flatten-read-reads
-use Rattle.composer.proofs.refusal.Reads as refusal-reads
-use Rattle.reading.proofs.read_tables.Reads as read-tables-reads
 
 read-tables-requires : tie.Need-read-tables-requires
 read-tables-requires c κs = search needs

@@ -7,8 +7,6 @@ use Rattle.composer.proofs.Closed.{both-hold, bytes-fit, check-accepts,
 use borrow.Author.Needs.{needs}
 use Rattle.composer.proofs.flatten_and_check.Statement.{statement}
 use Rattle.composer.proofs.flatten_and_check.Tie as tie
-use Rattle.composer.proofs.flatten.Reads as flatten-reads
-use Rattle.flat_table.proofs.bandrolt_check_table.Reads as bandrolt-check-table-reads
 
 flatten-requires : tie.Need-flatten-requires
 flatten-requires c κs = search needs

@@ -7,10 +7,6 @@ use Rattle.composer.proofs.Joining.{enough, flattened, room-keeps, room
 use borrow.Author.Needs.{needs}
 use Rattle.composer.proofs.flatten_judged.Statement.{statement}
 use Rattle.composer.proofs.flatten_judged.Tie as tie
-use Rattle.composer.proofs.count_survivors.Reads as count-survivors-reads
-use Rattle.composer.proofs.refusal.Reads as refusal-reads
-use Rattle.composer.proofs.write_table.Reads as write-table-reads
-use Rattle.flat_names.proofs.fill_prefixes.Reads as fill-prefixes-reads
 
 count-survivors-requires : tie.Need-count-survivors-requires
 count-survivors-requires c κs = search needs

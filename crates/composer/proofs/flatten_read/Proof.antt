@@ -7,9 +7,6 @@ use Rattle.composer.proofs.Joining.{tree-keeps, tree-refuses}
 use borrow.Author.Needs.{needs}
 use Rattle.composer.proofs.flatten_read.Statement.{statement}
 use Rattle.composer.proofs.flatten_read.Tie as tie
-use Rattle.composer.proofs.flatten_judged.Reads as flatten-judged-reads
-use Rattle.composer.proofs.refusal.Reads as refusal-reads
-use Rattle.judging.proofs.judge_tree.Reads as judge-tree-reads
 
 judge-tree-requires : tie.Need-judge-tree-requires
 judge-tree-requires c κs = ((c .before .before .before .before .before .before .before .before .pre), (search needs, (search needs, record { no-cells = refl; no-steps = refl; places-long = search needs; within-long = search needs })))

@@ -4,8 +4,6 @@ use native.Mathlib.Omega.{arith}
 use Rattle.composer.proofs.ByNumber.{element-few, element-of, gone-is}
 use Rattle.composer.proofs.gone_at.Statement.{statement}
 use Rattle.composer.proofs.gone_at.Tie as tie
-use Rattle.marks.proofs.is_gone.Reads as is-gone-reads
-use Rattle.tree.proofs.wide.Reads as wide-reads
 
 mul-wide : tie.Need-mul-wide
 mul-wide c =

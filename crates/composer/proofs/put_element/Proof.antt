@@ -4,8 +4,6 @@ use native.Mathlib.Omega.{arith}
 use Rattle.composer.proofs.Fields.{instance-low, number-low, own-tree, own-written}
 use Rattle.composer.proofs.put_element.Statement.{statement}
 use Rattle.composer.proofs.put_element.Tie as tie
-use Rattle.flat_names.proofs.put_name.Reads as put-name-reads
-use Rattle.tree.proofs.wide.Reads as wide-reads
 
 mul-wide : tie.Need-mul-wide
 mul-wide c =

@@ -6,9 +6,6 @@ use Rattle.flat_names.proofs.Puts.{field-room}
 use Rattle.composer.proofs.Fields.{instance-low, number-low, parent-blank, parent-tree, parent-written, place-short}
 use Rattle.composer.proofs.put_parent.Statement.{statement}
 use Rattle.composer.proofs.put_parent.Tie as tie
-use Rattle.flat_names.proofs.put_name.Reads as put-name-reads
-use Rattle.flat_names.proofs.put_zeros.Reads as put-zeros-reads
-use Rattle.tree.proofs.wide.Reads as wide-reads
 
 mul-wide : tie.Need-mul-wide
 mul-wide c =

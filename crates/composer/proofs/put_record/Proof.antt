@@ -7,10 +7,6 @@ use native.Mathlib.Omega.{arith}
 use Rattle.composer.proofs.Fields.{class-inside, number-low, place-short, record-room, record-written}
 use Rattle.composer.proofs.put_record.Statement.{statement}
 use Rattle.composer.proofs.put_record.Tie as tie
-use Rattle.composer.proofs.put_element.Reads as put-element-reads
-use Rattle.composer.proofs.put_parent.Reads as put-parent-reads
-use Rattle.composer.proofs.put_reference.Reads as put-reference-reads
-use Rattle.tree.proofs.wide.Reads as wide-reads
 
 mul-f : tie.Need-mul-f
 mul-f c =

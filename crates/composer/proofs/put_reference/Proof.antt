@@ -6,11 +6,6 @@ use Rattle.flat_names.proofs.Puts.{field-room}
 use Rattle.composer.proofs.Fields.{end-low, number-low, order-below, place-short, reference-blank, reference-written, referred, referred-low, referred-short}
 use Rattle.composer.proofs.put_reference.Statement.{statement}
 use Rattle.composer.proofs.put_reference.Tie as tie
-use Rattle.composer.proofs.put_element.Reads as put-element-reads
-use Rattle.composer.proofs.sibling.Reads as sibling-reads
-use Rattle.flat_names.proofs.put_zeros.Reads as put-zeros-reads
-use Rattle.marks.proofs.chain_end.Reads as chain-end-reads
-use Rattle.tree.proofs.wide.Reads as wide-reads
 
 mul-wide : tie.Need-mul-wide
 mul-wide c =

@@ -5,8 +5,6 @@ use native.Mathlib.Omega.{arith}
 use Rattle.composer.proofs.Writing.{Going, few, flat-room, going-end, going-gone, going-room, going-start, going-survivor, record-counted, record-long, referring}
 use Rattle.composer.proofs.write_table.Statement.{statement}
 use Rattle.composer.proofs.write_table.Tie as tie
-use Rattle.composer.proofs.gone_at.Reads as gone-at-reads
-use Rattle.composer.proofs.put_record.Reads as put-record-reads
 
 abbrev Inv-loop : tie.InvT-loop
 Inv-loop s w cells ord par refs go place within pre len total out₀ e₀ p₀ out e p = Going (record { width = w; bytes = s }) total out₀ out e p

@@ -8,10 +8,6 @@ use Rattle.judging.proofs.Judging.{marks-9, marks-10, marks-11, marks-0
 use borrow.Author.Needs.{needs}
 use Rattle.judging.proofs.judge_marks.Statement.{statement}
 use Rattle.judging.proofs.judge_marks.Tie as tie
-use Rattle.marks.proofs.first_conflict.Reads as first-conflict-reads
-use Rattle.marks.proofs.first_lost.Reads as first-lost-reads
-use Rattle.reading.proofs.answer.Reads as answer-reads
-use Rattle.tree.proofs.first_misclassed.Reads as first-misclassed-reads
 
 first-conflict-requires : tie.Need-first-conflict-requires
 first-conflict-requires c κs = (c .before .before .pre .0 .ready, blank-cells (record { width = c .before .before .args .w; bytes = c .before .before .args .s .now }) _ (c .before .before .pre .1))

@@ -10,10 +10,6 @@ use Rattle.judging.proofs.Judging.{naming-8, naming-marks, naming-12, n
 use borrow.Author.Needs.{needs}
 use Rattle.judging.proofs.judge_naming.Statement.{statement}
 use Rattle.judging.proofs.judge_naming.Tie as tie
-use Rattle.judging.proofs.judge_marks.Reads as judge-marks-reads
-use Rattle.judging.proofs.judge_references.Reads as judge-references-reads
-use Rattle.reading.proofs.answer.Reads as answer-reads
-use Rattle.tree.proofs.first_untargeted.Reads as first-untargeted-reads
 
 first-untargeted-requires : tie.Need-first-untargeted-requires
 first-untargeted-requires c κs = let n = pointing (record { width = c .before .before .before .args .w; bytes = c .before .before .before .args .s .now }) _ _ _ _ _ _ _ _ _ _ _ (c .before .before .before .pre .0) in (n .0, (n .1, (length-replicate {A = ℕ} 16384 0, length-replicate {A = ℕ} 16384 0)))

@@ -9,10 +9,6 @@ use Rattle.judging.proofs.Judging.{tree-7, tree-on, standing, composed}
 use borrow.Author.Needs.{needs}
 use Rattle.judging.proofs.judge_tree.Statement.{statement}
 use Rattle.judging.proofs.judge_tree.Tie as tie
-use Rattle.judging.proofs.answer_tree.Reads as answer-tree-reads
-use Rattle.judging.proofs.judge_naming.Reads as judge-naming-reads
-use Rattle.tree.proofs.count_elements.Reads as count-elements-reads
-use Rattle.tree.proofs.plant.Reads as plant-reads
 
 count-elements-requires : tie.Need-count-elements-requires
 count-elements-requires c κs = countable (record { width = c .before .before .before .args .w; bytes = c .before .before .before .args .s .now }) _ _ _ _ _ _ _ _ (c .before .before .before .pre .0) _ _ (length-replicate {A = ℕ} 16384 0) (c .before .before .before .pre .1 .0)

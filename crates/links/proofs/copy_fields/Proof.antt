@@ -5,7 +5,6 @@ use native.Mathlib.Omega.{arith}
 use Rattle.links.proofs.Entering.{listed-low, listed-fits, Copying, copying-start, fields-room, copying-one, copying-end}
 use Rattle.links.proofs.copy_fields.Statement.{statement}
 use Rattle.links.proofs.copy_fields.Tie as tie
-use Rattle.links.proofs.put_field.Reads as put-field-reads
 
 abbrev Inv-loop : tie.InvT-loop
 Inv-loop s w at n fields₀ i₀ fields i = (i ≤ n) × Copying (record { width = w; bytes = s }) fields₀ fields i

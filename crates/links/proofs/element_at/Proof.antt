@@ -8,10 +8,6 @@ use Rattle.links.proofs.Linking.{declared-low, element-blank, element-s
 use borrow.Author.Needs.{needs}
 use Rattle.links.proofs.element_at.Statement.{statement}
 use Rattle.links.proofs.element_at.Tie as tie
-use Rattle.links.proofs.field.Reads as field-reads
-use Rattle.links.proofs.find_declared.Reads as find-declared-reads
-use Rattle.links.proofs.place_of.Reads as place-of-reads
-use Rattle.names.proofs.is_blank.Reads as is-blank-reads
 
 add-field : tie.Need-add-field
 add-field c = let x = c .before .before .before .before .before .pre .0 in let k = c .before .before .before .before .before .pre .1 .0 in let eo = c .before .before .before .before .before .pre .1 .1 in omega (arith, small x .0, small x .1)

@@ -8,9 +8,6 @@ use Rattle.links.specs.Entries.{keyAt}
 use Rattle.links.proofs.Entering.{listed-in, listed-low, listed-fits, holder-below, key-is}
 use Rattle.links.proofs.fill_keys.Statement.{statement}
 use Rattle.links.proofs.fill_keys.Tie as tie
-use Rattle.links.proofs.field.Reads as field-reads
-use Rattle.links.proofs.key.Reads as key-reads
-use Rattle.links.proofs.tag.Reads as tag-reads
 
 abbrev Inv-loop : tie.InvT-loop
 Inv-loop s w at n hold keys₀ i₀ keys i = (i ≤ n) × Filled (keyAt (record { width = w; bytes = s })) keys₀ keys i

@@ -9,7 +9,6 @@ use Rattle.links.proofs.Lookups.{entry-in, declared-none, declared-some
 use borrow.Author.Needs.{needs}
 use Rattle.links.proofs.find_declared.Statement.{statement}
 use Rattle.links.proofs.find_declared.Tie as tie
-use Rattle.links.proofs.find_entry.Reads as find-entry-reads
 
 mul-find-entry : tie.Need-mul-find-entry
 mul-find-entry c = search needs

@@ -6,7 +6,6 @@ use Rattle.links.proofs.Lookups.{definition-found}
 use borrow.Author.Needs.{needs}
 use Rattle.links.proofs.find_definition.Statement.{statement}
 use Rattle.links.proofs.find_definition.Tie as tie
-use Rattle.links.proofs.find_entry.Reads as find-entry-reads
 
 find-entry-requires : tie.Need-find-entry-requires
 find-entry-requires c κs = search needs

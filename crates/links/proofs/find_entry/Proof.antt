@@ -8,8 +8,6 @@ use Rattle.links.proofs.Lookups.{entry-some, entry-none}
 use borrow.Author.Needs.{needs}
 use Rattle.links.proofs.find_entry.Statement.{statement}
 use Rattle.links.proofs.find_entry.Tie as tie
-use Rattle.links.proofs.key.Reads as key-reads
-use Rattle.name_index.proofs.find.Reads as find-reads
 
 key-requires : tie.Need-key-requires
 key-requires c κs = c .before .before .before .before .before .before .pre .1

@@ -6,7 +6,6 @@ use Rattle.links.proofs.Lookups.{port-found}
 use borrow.Author.Needs.{needs}
 use Rattle.links.proofs.find_port.Statement.{statement}
 use Rattle.links.proofs.find_port.Tie as tie
-use Rattle.links.proofs.find_entry.Reads as find-entry-reads
 
 mul-find-entry : tie.Need-mul-find-entry
 mul-find-entry c = search needs

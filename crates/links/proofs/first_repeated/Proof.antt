@@ -8,7 +8,6 @@ use Rattle.links.proofs.Repeats.{fault-four-some, fault-four-none}
 use borrow.Author.Needs.{needs}
 use Rattle.links.proofs.first_repeated.Statement.{statement}
 use Rattle.links.proofs.first_repeated.Tie as tie
-use Rattle.name_index.proofs.first_repeat.Reads as first-repeat-reads
 
 first-repeat-requires : tie.Need-first-repeat-requires
 first-repeat-requires c κs = c .before .before .before .before .before .pre .indexes

@@ -9,7 +9,6 @@ use Rattle.links.proofs.Entering.{listed-low}
 use Rattle.links.proofs.Declarations.{undeclaredAt, five-some, five-none, recorded, undeclared-numbered}
 use Rattle.links.proofs.first_undeclared.Statement.{statement}
 use Rattle.links.proofs.first_undeclared.Tie as tie
-use Rattle.links.proofs.is_undeclared.Reads as is-undeclared-reads
 
 abbrev Inv-loop : tie.InvT-loop
 Inv-loop s w n at fields keys index hold i₀ i = (i ≤ n) × (scan (undeclaredAt (record { width = w; bytes = s })) n ≡ firstFrom (undeclaredAt (record { width = w; bytes = s })) i (n - i))

@@ -5,11 +5,6 @@ use Rattle.links.proofs.Repeats.{fields-whole, index-built}
 use borrow.Author.Needs.{needs}
 use Rattle.links.proofs.index_names.Statement.{statement}
 use Rattle.links.proofs.index_names.Tie as tie
-use Rattle.links.proofs.copy_fields.Reads as copy-fields-reads
-use Rattle.links.proofs.fill_keys.Reads as fill-keys-reads
-use Rattle.links.proofs.hold_records.Reads as hold-records-reads
-use Rattle.links.proofs.list_records.Reads as list-records-reads
-use Rattle.name_index.proofs.build.Reads as build-reads
 
 list-records-requires : tie.Need-list-records-requires
 list-records-requires c κs = search needs

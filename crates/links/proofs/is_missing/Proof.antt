@@ -5,7 +5,6 @@ use Rattle.links.proofs.Declarations.{not-there, there}
 use borrow.Author.Needs.{needs}
 use Rattle.links.proofs.is_missing.Statement.{statement}
 use Rattle.links.proofs.is_missing.Tie as tie
-use Rattle.links.proofs.find_declared.Reads as find-declared-reads
 
 find-declared-requires : tie.Need-find-declared-requires
 find-declared-requires c κs = let pre = c .before .before .before .before .before .before .pre in (pre .0 .indexed, (pre .0 .once, pre .1))

@@ -4,10 +4,6 @@ use native.Mathlib.Omega.{arith}
 use Rattle.links.proofs.Declarations.{room, mark-kind, read-kind, undeclared-model, undeclared-element, undeclared-port, undeclared-submodel, undeclared-mark}
 use Rattle.links.proofs.is_undeclared.Statement.{statement}
 use Rattle.links.proofs.is_undeclared.Tie as tie
-use Rattle.links.proofs.mark_fault.Reads as mark-fault-reads
-use Rattle.links.proofs.model_fault.Reads as model-fault-reads
-use Rattle.links.proofs.parent_fault.Reads as parent-fault-reads
-use Rattle.links.proofs.port_fault.Reads as port-fault-reads
 
 shared-slice-read-k : tie.Need-shared-slice-read-k
 shared-slice-read-k c = let x = c .before .before .before .before .before .before .pre in omega (arith, room x)

@@ -4,7 +4,6 @@ use Rattle.links.specs.Entries.{keyOf}
 use borrow.Author.Needs.{needs}
 use Rattle.links.proofs.key.Statement.{statement}
 use Rattle.links.proofs.key.Tie as tie
-use Rattle.name_index.proofs.hash.Reads as hash-reads
 
 mul-result : tie.Need-mul-result
 mul-result c = search needs

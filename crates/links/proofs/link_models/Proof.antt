@@ -9,7 +9,6 @@ use Rattle.links.proofs.Entering.{listed-low}
 use Rattle.links.proofs.Declarations.{recorded}
 use Rattle.links.proofs.link_models.Statement.{statement}
 use Rattle.links.proofs.link_models.Tie as tie
-use Rattle.links.proofs.model_at.Reads as model-at-reads
 
 abbrev Inv-loop : tie.InvT-loop
 Inv-loop s w n at fields keys index hold out₀ i₀ out i = (i ≤ n) × Filling (record { width = w; bytes = s }) (modelLink (record { width = w; bytes = s })) out₀ out i

@@ -8,7 +8,6 @@ use Rattle.links.proofs.Entering.{listed-low}
 use Rattle.links.proofs.Declarations.{recorded}
 use Rattle.links.proofs.link_parents.Statement.{statement}
 use Rattle.links.proofs.link_parents.Tie as tie
-use Rattle.links.proofs.parent_at.Reads as parent-at-reads
 
 abbrev Inv-loop : tie.InvT-loop
 Inv-loop s w n at fields keys index hold out₀ i₀ out i = (i ≤ n) × Filling (record { width = w; bytes = s }) (parentLink (record { width = w; bytes = s })) out₀ out i

@@ -8,7 +8,6 @@ use Rattle.links.proofs.Entering.{listed-low}
 use Rattle.links.proofs.Declarations.{recorded}
 use Rattle.links.proofs.link_targets.Statement.{statement}
 use Rattle.links.proofs.link_targets.Tie as tie
-use Rattle.links.proofs.next_at.Reads as next-at-reads
 
 abbrev Inv-loop : tie.InvT-loop
 Inv-loop s w n at fields keys index hold model sub out₀ i₀ out i = (i ≤ n) × Filling (record { width = w; bytes = s }) (nextLink (record { width = w; bytes = s })) out₀ out i

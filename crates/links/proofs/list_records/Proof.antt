@@ -7,7 +7,6 @@ use Rattle.recipe.proofs.Reading.{next-more}
 use Rattle.links.proofs.Entering.{Listing, listing-start, listing-low, listing-fits, listing-one, listing-end, step-next}
 use Rattle.links.proofs.list_records.Statement.{statement}
 use Rattle.links.proofs.list_records.Tie as tie
-use Rattle.recipe.proofs.record_length.Reads as record-length-reads
 
 abbrev Inv-loop : tie.InvT-loop
 Inv-loop s w at₀ i₀ p₀ at i p = Listing (record { width = w; bytes = s }) at₀ at i p

@@ -7,9 +7,6 @@ use Rattle.links.proofs.Declarations.{small, room, room-mark, held-low,
 use borrow.Author.Needs.{needs}
 use Rattle.links.proofs.mark_fault.Statement.{statement}
 use Rattle.links.proofs.mark_fault.Tie as tie
-use Rattle.links.proofs.field.Reads as field-reads
-use Rattle.links.proofs.is_missing.Reads as is-missing-reads
-use Rattle.links.proofs.submodel_offset.Reads as submodel-offset-reads
 
 shared-slice-read-k : tie.Need-shared-slice-read-k
 shared-slice-read-k c = let x = c .before .before .before .before .before .before .pre .0 in let k = c .before .before .before .before .before .before .pre .1 in omega (arith, room x)

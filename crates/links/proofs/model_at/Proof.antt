@@ -5,9 +5,6 @@ use Rattle.links.proofs.Declarations.{small, room, room-model, model-so
 use Rattle.links.proofs.Linking.{definition-low, model-other, model-link}
 use Rattle.links.proofs.model_at.Statement.{statement}
 use Rattle.links.proofs.model_at.Tie as tie
-use Rattle.links.proofs.field.Reads as field-reads
-use Rattle.links.proofs.find_definition.Reads as find-definition-reads
-use Rattle.links.proofs.place_of.Reads as place-of-reads
 
 shared-slice-read-if1 : tie.Need-shared-slice-read-if1
 shared-slice-read-if1 c = let x = c .before .before .before .before .before .before .pre in omega (arith, room x)

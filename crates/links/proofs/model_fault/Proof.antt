@@ -6,8 +6,6 @@ use Rattle.links.proofs.Declarations.{small, room-model, model-sought, 
 use borrow.Author.Needs.{needs}
 use Rattle.links.proofs.model_fault.Statement.{statement}
 use Rattle.links.proofs.model_fault.Tie as tie
-use Rattle.links.proofs.field.Reads as field-reads
-use Rattle.links.proofs.find_definition.Reads as find-definition-reads
 
 add-field : tie.Need-add-field
 add-field c = let x = c .before .before .before .before .before .pre .0 in let k = c .before .before .before .before .before .pre .1 in omega (arith, small x .0, small x .1, room-model x k)

@@ -6,8 +6,6 @@ use Rattle.links.proofs.Linking.{pointing}
 use Rattle.links.proofs.Targets.{next-other, named-low, next-link}
 use Rattle.links.proofs.next_at.Statement.{statement}
 use Rattle.links.proofs.next_at.Tie as tie
-use Rattle.links.proofs.place_of.Reads as place-of-reads
-use Rattle.links.proofs.target_of.Reads as target-of-reads
 
 shared-slice-read-k : tie.Need-shared-slice-read-k
 shared-slice-read-k c = let x = c .before .before .before .before .before .before .pre .0 in omega (arith, room x)

@@ -6,8 +6,6 @@ use native.Mathlib.Omega.{arith}
 use Rattle.links.proofs.Declarations.{small, room-filled, held-low, own-way, target-sought, own-target}
 use Rattle.links.proofs.own_port_fault.Statement.{statement}
 use Rattle.links.proofs.own_port_fault.Tie as tie
-use Rattle.links.proofs.field.Reads as field-reads
-use Rattle.links.proofs.is_missing.Reads as is-missing-reads
 
 add-if1 : tie.Need-add-if1
 add-if1 c = let x = c .before .before .before .before .before .pre .0 in let k = c .before .before .before .before .before .pre .1 in omega (arith, small x .0, small x .1, room-filled x (inr k))

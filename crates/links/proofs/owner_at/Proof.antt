@@ -7,9 +7,6 @@ use Rattle.links.proofs.Declarations.{small, room, held-low, first-soug
 use Rattle.links.proofs.Linking.{declared-low, owner-link, owner-other}
 use Rattle.links.proofs.owner_at.Statement.{statement}
 use Rattle.links.proofs.owner_at.Tie as tie
-use Rattle.links.proofs.field.Reads as field-reads
-use Rattle.links.proofs.find_declared.Reads as find-declared-reads
-use Rattle.links.proofs.place_of.Reads as place-of-reads
 
 shared-slice-read-k : tie.Need-shared-slice-read-k
 shared-slice-read-k c = let x = c .before .before .before .before .before .before .pre in omega (arith, room x)

@@ -7,11 +7,6 @@ use Rattle.links.proofs.Declarations.{small, room-filled, held-low, fou
 use borrow.Author.Needs.{needs}
 use Rattle.links.proofs.parent_fault.Statement.{statement}
 use Rattle.links.proofs.parent_fault.Tie as tie
-use Rattle.flat_table.proofs.parent_allowed.Reads as parent-allowed-reads
-use Rattle.flat_table.proofs.parent_may_be_blank.Reads as parent-may-be-blank-reads
-use Rattle.links.proofs.field.Reads as field-reads
-use Rattle.links.proofs.find_declared.Reads as find-declared-reads
-use Rattle.names.proofs.is_blank.Reads as is-blank-reads
 
 add-c : tie.Need-add-c
 add-c c = let x = c .before .before .before .before .before .pre .0 in let k = c .before .before .before .before .before .pre .1 in omega (arith, small x .0, small x .1, room-filled x (inl k))

@@ -7,10 +7,6 @@ use Rattle.links.proofs.Declarations.{small, room-filled, held-low, por
 use borrow.Author.Needs.{needs}
 use Rattle.links.proofs.port_fault.Statement.{statement}
 use Rattle.links.proofs.port_fault.Tie as tie
-use Rattle.links.proofs.field.Reads as field-reads
-use Rattle.links.proofs.is_missing.Reads as is-missing-reads
-use Rattle.links.proofs.own_port_fault.Reads as own-port-fault-reads
-use Rattle.names.proofs.is_blank.Reads as is-blank-reads
 
 add-field : tie.Need-add-field
 add-field c = let x = c .before .before .before .before .before .pre .0 in let k = c .before .before .before .before .before .pre .1 in omega (arith, small x .0, small x .1, room-filled x (inr k))

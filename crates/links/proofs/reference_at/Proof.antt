@@ -7,7 +7,6 @@ use Rattle.links.proofs.Declarations.{small, room}
 use Rattle.links.proofs.Linking.{reference-other, reference-link}
 use Rattle.links.proofs.reference_at.Statement.{statement}
 use Rattle.links.proofs.reference_at.Tie as tie
-use Rattle.links.proofs.element_at.Reads as element-at-reads
 
 shared-slice-read-if1 : tie.Need-shared-slice-read-if1
 shared-slice-read-if1 c = let x = c .before .before .before .before .before .before .pre in omega (arith, room x)

@@ -8,11 +8,6 @@ use Rattle.links.proofs.Linking.{pointing, declared-low, room-pointer, 
 use borrow.Author.Needs.{needs}
 use Rattle.links.proofs.submodel_at.Statement.{statement}
 use Rattle.links.proofs.submodel_at.Tie as tie
-use Rattle.links.proofs.field.Reads as field-reads
-use Rattle.links.proofs.find_declared.Reads as find-declared-reads
-use Rattle.links.proofs.place_of.Reads as place-of-reads
-use Rattle.links.proofs.submodel_offset.Reads as submodel-offset-reads
-use Rattle.names.proofs.is_blank.Reads as is-blank-reads
 
 shared-slice-read-k : tie.Need-shared-slice-read-k
 shared-slice-read-k c = let x = c .before .before .before .before .before .before .pre in omega (arith, room x)

@@ -8,11 +8,6 @@ use Rattle.links.proofs.Targets.{room-behind, target-sought, named-own,
 use borrow.Author.Needs.{needs}
 use Rattle.links.proofs.target_of.Statement.{statement}
 use Rattle.links.proofs.target_of.Tie as tie
-use Rattle.links.proofs.field.Reads as field-reads
-use Rattle.links.proofs.find_declared.Reads as find-declared-reads
-use Rattle.links.proofs.find_port.Reads as find-port-reads
-use Rattle.links.proofs.submodel_offset.Reads as submodel-offset-reads
-use Rattle.names.proofs.is_blank.Reads as is-blank-reads
 
 shared-slice-read-submodel-offset : tie.Need-shared-slice-read-submodel-offset
 shared-slice-read-submodel-offset c = let x = c .before .before .before .before .before .before .pre .0 in let l = c .before .before .before .before .before .before .pre .1 .0 in let k = c .before .before .before .before .before .before .pre .1 .1 in omega (arith, room x)

@@ -10,7 +10,6 @@ use Rattle.marks.proofs.Listing.{done-end, done-other, done-start, elem
 use Rattle.marks.proofs.StepTable.{Done}
 use Rattle.marks.proofs.elements_at.Statement.{statement}
 use Rattle.marks.proofs.elements_at.Tie as tie
-use Rattle.tree.proofs.wide.Reads as wide-reads
 
 abbrev Inv-loop : tie.InvT-loop
 Inv-loop s w p hold ord inst n place₀ within₀ h o i₀ place within i = (length place ≡ 1024) × ((length within ≡ 1024) × Listed (record { width = w; bytes = s }) (Done (record { width = w; bytes = s }) p i) place within)

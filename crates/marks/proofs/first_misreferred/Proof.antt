@@ -14,8 +14,6 @@ use Rattle.marks.specs.References.{misrefers}
 use Rattle.marks.proofs.References.{not-wrong}
 use Rattle.marks.proofs.first_misreferred.Statement.{statement}
 use Rattle.marks.proofs.first_misreferred.Tie as tie
-use Rattle.marks.proofs.misreferred_at.Reads as misreferred-at-reads
-use Rattle.recipe.proofs.record_length.Reads as record-length-reads
 
 abbrev Inv-loop : tie.InvT-loop
 Inv-loop s w hold ord inst n refs par t go place p₀ p = (p ≤ length s) × Going (record { width = w; bytes = s }) (misrefers (record { width = w; bytes = s })) p

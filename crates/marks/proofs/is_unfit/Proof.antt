@@ -6,9 +6,6 @@ use Rattle.marks.proofs.References.{end-element, end-low, unfit}
 use borrow.Author.Needs.{needs}
 use Rattle.marks.proofs.is_unfit.Statement.{statement}
 use Rattle.marks.proofs.is_unfit.Tie as tie
-use Rattle.flat_table.proofs.reference_allowed.Reads as reference-allowed-reads
-use Rattle.marks.proofs.is_gone.Reads as is-gone-reads
-use Rattle.tree.proofs.wide.Reads as wide-reads
 
 mul-wide : tie.Need-mul-wide
 mul-wide c =

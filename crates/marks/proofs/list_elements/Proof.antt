@@ -13,8 +13,6 @@ use Rattle.marks.specs.Listing.{Listed}
 use Rattle.marks.proofs.Listing.{listed-end, listed-skip, listed-start}
 use Rattle.marks.proofs.list_elements.Statement.{statement}
 use Rattle.marks.proofs.list_elements.Tie as tie
-use Rattle.marks.proofs.elements_at.Reads as elements-at-reads
-use Rattle.recipe.proofs.record_length.Reads as record-length-reads
 
 abbrev Inv-loop : tie.InvT-loop
 Inv-loop s w hold ord inst n place₀ within₀ p₀ place within p = (p ≤ length s) × (Going (record { width = w; bytes = s }) (λ q. false) p × (Listed (record { width = w; bytes = s }) (λ x. x .place < p) place within × ((length place ≡ 1024) × (length within ≡ 1024))))

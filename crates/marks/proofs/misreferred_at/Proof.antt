@@ -11,9 +11,6 @@ use Rattle.marks.proofs.Listing.{element-low}
 use Rattle.marks.proofs.References.{wrong, wrong-element, wrong-end, wrong-few, wrong-hold, wrong-other, wrong-start}
 use Rattle.marks.proofs.misreferred_at.Statement.{statement}
 use Rattle.marks.proofs.misreferred_at.Tie as tie
-use Rattle.marks.proofs.is_gone.Reads as is-gone-reads
-use Rattle.marks.proofs.refers_wrongly.Reads as refers-wrongly-reads
-use Rattle.tree.proofs.wide.Reads as wide-reads
 
 abbrev Inv-loop : tie.InvT-loop
 Inv-loop s w p hold ord inst n refs par t go place h o i₀ i = misrefers (record { width = w; bytes = s }) p ≡ any (wrong (record { width = w; bytes = s }) p) (drop i (instances (record { width = w; bytes = s })))

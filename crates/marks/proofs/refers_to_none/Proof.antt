@@ -9,7 +9,6 @@ use Rattle.marks.proofs.References.{reference-is, reference-low}
 use borrow.Author.Needs.{needs}
 use Rattle.marks.proofs.refers_to_none.Statement.{statement}
 use Rattle.marks.proofs.refers_to_none.Tie as tie
-use Rattle.names.proofs.is_blank.Reads as is-blank-reads
 
 add-a : tie.Need-add-a
 add-a c =

@@ -5,11 +5,6 @@ use Rattle.marks.proofs.References.{end-numbers, fault-blank, fault-end
 use borrow.Author.Needs.{needs}
 use Rattle.marks.proofs.refers_wrongly.Statement.{statement}
 use Rattle.marks.proofs.refers_wrongly.Tie as tie
-use Rattle.flat_table.proofs.reference_may_be_blank.Reads as reference-may-be-blank-reads
-use Rattle.marks.proofs.chain_end.Reads as chain-end-reads
-use Rattle.marks.proofs.is_unfit.Reads as is-unfit-reads
-use Rattle.marks.proofs.refers_to_none.Reads as refers-to-none-reads
-use Rattle.tree.proofs.wide.Reads as wide-reads
 
 add-c : tie.Need-add-c
 add-c c =

@@ -7,10 +7,6 @@ use Rattle.reading.proofs.Judging.{alone-1, alone-2, alone-3, alone-0, 
 use borrow.Author.Needs.{needs}
 use Rattle.reading.proofs.judge_alone.Statement.{statement}
 use Rattle.reading.proofs.judge_alone.Tie as tie
-use Rattle.reading.proofs.answer.Reads as answer-reads
-use Rattle.recipe.proofs.first_unformed.Reads as first-unformed-reads
-use Rattle.recipe.proofs.length_fault.Reads as length-fault-reads
-use Rattle.recipe.proofs.reading_stop.Reads as reading-stop-reads
 
 length-fault-requires : tie.Need-length-fault-requires
 length-fault-requires c κs = search needs

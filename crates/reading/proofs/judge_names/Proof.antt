@@ -7,11 +7,6 @@ use Rattle.reading.proofs.Judging.{names-4, names-5, names-6, names-0, 
 use borrow.Author.Needs.{needs}
 use Rattle.reading.proofs.judge_names.Statement.{statement}
 use Rattle.reading.proofs.judge_names.Tie as tie
-use Rattle.heights.proofs.find_heights.Reads as find-heights-reads
-use Rattle.links.proofs.first_repeated.Reads as first-repeated-reads
-use Rattle.links.proofs.first_undeclared.Reads as first-undeclared-reads
-use Rattle.links.proofs.link_models.Reads as link-models-reads
-use Rattle.reading.proofs.answer.Reads as answer-reads
 
 first-repeated-requires : tie.Need-first-repeated-requires
 first-repeated-requires c κs = search needs

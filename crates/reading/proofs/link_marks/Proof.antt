@@ -3,9 +3,6 @@
 use borrow.Author.Needs.{needs}
 use Rattle.reading.proofs.link_marks.Statement.{statement}
 use Rattle.reading.proofs.link_marks.Tie as tie
-use Rattle.links.proofs.link_owners.Reads as link-owners-reads
-use Rattle.links.proofs.link_submodels.Reads as link-submodels-reads
-use Rattle.links.proofs.link_targets.Reads as link-targets-reads
 
 link-owners-requires : tie.Need-link-owners-requires
 link-owners-requires c κs = search needs

@@ -4,9 +4,6 @@ use Rattle.reading.proofs.Judging.{linkable-is}
 use borrow.Author.Needs.{needs}
 use Rattle.reading.proofs.link_tables.Statement.{statement}
 use Rattle.reading.proofs.link_tables.Tie as tie
-use Rattle.reading.proofs.judge_names.Reads as judge-names-reads
-use Rattle.reading.proofs.link_elements.Reads as link-elements-reads
-use Rattle.reading.proofs.link_marks.Reads as link-marks-reads
 
 judge-names-requires : tie.Need-judge-names-requires
 judge-names-requires c κs = search needs

@@ -4,9 +4,6 @@ use Rattle.reading.proofs.Judging.{refused-alone, clear-is, names-verdi
 use borrow.Author.Needs.{needs}
 use Rattle.reading.proofs.read_tables.Statement.{statement}
 use Rattle.reading.proofs.read_tables.Tie as tie
-use Rattle.links.proofs.index_names.Reads as index-names-reads
-use Rattle.reading.proofs.judge_alone.Reads as judge-alone-reads
-use Rattle.reading.proofs.link_tables.Reads as link-tables-reads
 
 judge-alone-requires : tie.Need-judge-alone-requires
 judge-alone-requires c κs = search needs

@@ -12,8 +12,6 @@ use Rattle.recipe.proofs.Going.{Going, here, going-start, going-hit, go
 use Rattle.recipe.proofs.Fields.{read-form, refused-form, fault-3}
 use Rattle.recipe.proofs.first_unformed.Statement.{statement}
 use Rattle.recipe.proofs.first_unformed.Tie as tie
-use Rattle.recipe.proofs.read_record.Reads as read-record-reads
-use Rattle.recipe.proofs.record_length.Reads as record-length-reads
 
 abbrev Inv-loop : tie.InvT-loop
 Inv-loop s w p₀ p = Going (record { width = w; bytes = s }) (λ q. not (isForm (record { width = w; bytes = s }) q)) p × (p ≤ length s)

@@ -6,7 +6,6 @@ use Rattle.recipe.proofs.Reading.{not-past, not-low, not-high, not-whol
 use borrow.Author.Needs.{needs}
 use Rattle.recipe.proofs.is_readable.Statement.{statement}
 use Rattle.recipe.proofs.is_readable.Tie as tie
-use Rattle.recipe.proofs.record_length.Reads as record-length-reads
 
 returns : tie.Need-returns
 returns c = not-past (record { width = c .before .before .args .w; bytes = c .before .before .args .s .now }) _ (c .if1 .taken)

@@ -6,7 +6,6 @@ use Rattle.recipe.proofs.Fields.{field-part}
 use borrow.Author.Needs.{needs}
 use Rattle.recipe.proofs.optional_at.Statement.{statement}
 use Rattle.recipe.proofs.optional_at.Tie as tie
-use Rattle.names.proofs.read_optional.Reads as read-optional-reads
 
 add-at : tie.Need-add-at
 add-at c = search needs

@@ -7,9 +7,6 @@ use Rattle.recipe.proofs.Fields.{element-nameless, element-classless, e
 use borrow.Author.Needs.{needs}
 use Rattle.recipe.proofs.read_element.Statement.{statement}
 use Rattle.recipe.proofs.read_element.Tie as tie
-use Rattle.flat_table.proofs.is_class.Reads as is-class-reads
-use Rattle.recipe.proofs.field_at.Reads as field-at-reads
-use Rattle.recipe.proofs.optional_at.Reads as optional-at-reads
 
 field-at-requires : tie.Need-field-at-requires
 field-at-requires c κs = search needs

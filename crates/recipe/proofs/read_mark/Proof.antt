@@ -6,8 +6,6 @@ use Rattle.recipe.proofs.Fields.{mark-nameless, mark-submodelless, mark
 use borrow.Author.Needs.{needs}
 use Rattle.recipe.proofs.read_mark.Statement.{statement}
 use Rattle.recipe.proofs.read_mark.Tie as tie
-use Rattle.recipe.proofs.field_at.Reads as field-at-reads
-use Rattle.recipe.proofs.read_target.Reads as read-target-reads
 
 field-at-requires : tie.Need-field-at-requires
 field-at-requires c κs = search needs

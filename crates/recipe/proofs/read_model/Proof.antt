@@ -6,7 +6,6 @@ use Rattle.recipe.proofs.Fields.{model-refused, model-read}
 use borrow.Author.Needs.{needs}
 use Rattle.recipe.proofs.read_model.Statement.{statement}
 use Rattle.recipe.proofs.read_model.Tie as tie
-use Rattle.recipe.proofs.field_at.Reads as field-at-reads
 
 field-at-requires : tie.Need-field-at-requires
 field-at-requires c κs = search needs

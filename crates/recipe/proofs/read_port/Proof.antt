@@ -7,9 +7,6 @@ use Rattle.recipe.proofs.Fields.{port-nameless, port-submodel, port-off
 use borrow.Author.Needs.{needs}
 use Rattle.recipe.proofs.read_port.Statement.{statement}
 use Rattle.recipe.proofs.read_port.Tie as tie
-use Rattle.recipe.proofs.field_at.Reads as field-at-reads
-use Rattle.recipe.proofs.optional_at.Reads as optional-at-reads
-use Rattle.recipe.proofs.read_target.Reads as read-target-reads
 
 field-at-requires : tie.Need-field-at-requires
 field-at-requires c κs = search needs

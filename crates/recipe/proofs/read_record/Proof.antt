@@ -5,11 +5,6 @@ use Rattle.recipe.proofs.Fields.{of-kind, of-other, in-recipe, at-1, at
 use borrow.Author.Needs.{needs}
 use Rattle.recipe.proofs.read_record.Statement.{statement}
 use Rattle.recipe.proofs.read_record.Tie as tie
-use Rattle.recipe.proofs.read_element.Reads as read-element-reads
-use Rattle.recipe.proofs.read_mark.Reads as read-mark-reads
-use Rattle.recipe.proofs.read_model.Reads as read-model-reads
-use Rattle.recipe.proofs.read_port.Reads as read-port-reads
-use Rattle.recipe.proofs.read_submodel.Reads as read-submodel-reads
 
 shared-slice-read-k : tie.Need-shared-slice-read-k
 shared-slice-read-k c = in-recipe _ _ (c .before .before .pre)

@@ -7,7 +7,6 @@ use Rattle.recipe.proofs.Fields.{name-fits, submodel-nameless, submodel
 use borrow.Author.Needs.{needs}
 use Rattle.recipe.proofs.read_submodel.Statement.{statement}
 use Rattle.recipe.proofs.read_submodel.Tie as tie
-use Rattle.recipe.proofs.field_at.Reads as field-at-reads
 
 field-at-requires : tie.Need-field-at-requires
 field-at-requires c κs = search needs

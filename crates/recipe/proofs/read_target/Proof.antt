@@ -6,7 +6,6 @@ use Rattle.recipe.proofs.Fields.{target-far, target-nameless, target-el
 use borrow.Author.Needs.{needs}
 use Rattle.recipe.proofs.read_target.Statement.{statement}
 use Rattle.recipe.proofs.read_target.Tie as tie
-use Rattle.recipe.proofs.field_at.Reads as field-at-reads
 
 add-b : tie.Need-add-b
 add-b c = search needs

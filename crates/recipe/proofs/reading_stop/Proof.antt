@@ -9,8 +9,6 @@ use Rattle.recipe.specs.Records.{kind, next}
 use Rattle.recipe.proofs.Reading.{readable-fits, next-more, Left, left-start, left-more, left-end}
 use Rattle.recipe.proofs.reading_stop.Statement.{statement}
 use Rattle.recipe.proofs.reading_stop.Tie as tie
-use Rattle.recipe.proofs.is_readable.Reads as is-readable-reads
-use Rattle.recipe.proofs.record_length.Reads as record-length-reads
 
 abbrev Inv-loop : tie.InvT-loop
 Inv-loop s w p₀ p = (p ≤ length s) × Left (record { width = w; bytes = s }) p

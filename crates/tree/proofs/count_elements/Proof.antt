@@ -11,8 +11,6 @@ use Rattle.recipe.proofs.Spans.{holder-below}
 use Rattle.tree.proofs.Counting.{Counting, counted-few, counting-element, counting-end, counting-model, counting-on, counting-other, counting-start}
 use Rattle.tree.proofs.count_elements.Statement.{statement}
 use Rattle.tree.proofs.count_elements.Tie as tie
-use Rattle.recipe.proofs.record_length.Reads as record-length-reads
-use Rattle.tree.proofs.wide.Reads as wide-reads
 
 abbrev Inv-loop : tie.InvT-loop
 Inv-loop s w hold count₀ ord₀ p₀ count ord p = (p ≤ length s) × (Going (record { width = w; bytes = s }) (λ q. false) p × Counting (record { width = w; bytes = s }) count ord p)

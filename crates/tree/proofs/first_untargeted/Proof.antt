@@ -18,9 +18,6 @@ use Rattle.tree.proofs.ByHeight.{measured-target}
 use Rattle.tree.proofs.Untargeted.{aims-end, aims-more, aims-skip, aims-start, missing, not-untargeted, numbered-end, numbered-large, numbered-more, numbered-skip, numbered-start, target-low}
 use Rattle.tree.proofs.first_untargeted.Statement.{statement}
 use Rattle.tree.proofs.first_untargeted.Tie as tie
-use Rattle.recipe.proofs.record_length.Reads as record-length-reads
-use Rattle.tree.proofs.resolve_port.Reads as resolve-port-reads
-use Rattle.tree.proofs.wide.Reads as wide-reads
 
 abbrev Inv-loop : tie.InvT-loop
 Inv-loop s w sub nxt ord off hold height rel₀ aims₀ p₀ rel aims p = (p ≤ length s) × (Going (record { width = w; bytes = s }) (isTargetFault (record { width = w; bytes = s })) p × (Numbered (record { width = w; bytes = s }) off rel p × (Aims (record { width = w; bytes = s }) aims p × ((length rel ≡ 16384) × (length aims ≡ 16384)))))
