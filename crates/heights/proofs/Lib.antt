@@ -3,3 +3,4 @@ pub mod Along
 pub mod Search
 pub mod Cycles
 pub mod Raising
+pub mod Settling

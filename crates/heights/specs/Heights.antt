@@ -1,20 +1,20 @@
--- Heights of definitions: numbers that fall along submodel records, and what the turns that raise them keep.
+-- Heights of definitions: numbers that fall along submodel records, and what the search that settles them keeps.
 -- Assumes nothing.
 use mathlib.Core.Path.{_≡_}
-use mathlib.Core.Bool.{Bool, true, false}
+use mathlib.Core.Bool.{Bool, true, false, _&&_}
 use mathlib.Core.Option.{none}
 use mathlib.Core.List.{List}
-use Prim.Native.Nat.{ℕ, suc, _+_, _≤_, _<_}
+use Prim.Native.Nat.{ℕ, zero, suc, _≤_, _<_}
 use lib.ListN.{length, getD}
+use lib.Dec.{ltb}
 use Rattle.names.specs.declared.Found.{Found}
 use Rattle.names.specs.Lists.{In}
 use Rattle.names.specs.Scans.{foundOf}
 use Rattle.recipe.specs.Records.{Recipe}
 use Rattle.recipe.specs.Definitions.{definitions, submodels, modelOf}
+use Rattle.recipe.specs.Reaching.{Reach}
 use Rattle.recipe.specs.Reading.{fault₆}
-use Rattle.heights.specs.Search.{Ground, sum}
-use Rattle.heights.specs.declared.Turn.{Turn}
-use Rattle.heights.specs.declared.Turn.the-variants.{Same, Changed, TooHigh}
+use Rattle.heights.specs.Search.{Ground}
 
 -- a table by place: each definition's height is 1 at least, and greater than that of each of its submodels' models
 pub record Heights (s : Recipe) (height : List ℕ) : Type 0 where
@@ -26,44 +26,56 @@ pub record Judged (s : Recipe) (height : List ℕ) (r : Found) : Type 0 where
   pub found : r ≡ foundOf (fault₆ s)
   pub heights : fault₆ s ≡ none → Heights s height
 
--- ---- what the inner functions keep
--- n submodel records in a row, each of the model of the one before it, the first of d
-pub data Walk (s : Recipe) : ℕ → ℕ → Type 0 where
-  stay : {d : ℕ} → Walk s 0 d
-  step : {d n : ℕ} (m : ℕ) → In m (submodels s d) → Walk s n (modelOf s m) → Walk s (suc n) d
+-- ---- what the inner functions keep: 0 is a definition not seen yet, 65535 one in progress
+abbrev pub isSeen : ℕ → Bool
+isSeen h = ltb 0 h
 
--- the height of d is one more than a number of submodel records in a row
-pub record High (s : Recipe) (height : List ℕ) (d : ℕ) : Type 0 where
-  pub steps : ℕ
-  pub is : getD height d 0 ≡ suc steps
-  pub walk : Walk s steps d
+abbrev pub isSettled : ℕ → Bool
+isSettled h = ltb 0 h && ltb h 65535
 
--- a table of such heights, none over n + 1
-pub record Raised (s : Recipe) (height : List ℕ) (n : ℕ) : Type 0 where
+-- how many of the first k entries pass the test
+abbrev pub tally : (ℕ → Bool) → ℕ → List ℕ → ℕ
+tally t zero xs = 0
+tally t (suc k) xs = elim (t (getD xs k 0)) [ true ↦ suc (tally t k xs) | false ↦ tally t k xs ]
+
+-- the models of the submodels of a settled definition are settled below it, and no height is over the number of settled definitions
+pub record Partly (s : Recipe) (height : List ℕ) : Type 0 where
   pub long : length (s .bytes) ≤ length height
-  pub high : (d : ℕ) → d < length height → High s height d
-  pub low : (d : ℕ) → getD height d 0 ≤ n + 1
+  pub falls : (d m : ℕ) → isSettled (getD height d 0) ≡ true → In m (submodels s d)
+      → (isSettled (getD height (modelOf s m) 0) ≡ true) × (getD height (modelOf s m) 0 < getD height d 0)
+  pub low : (d : ℕ) → isSettled (getD height d 0) ≡ true → getD height d 0 ≤ tally isSettled (length (s .bytes)) height
 
--- what a turn asks: the tables, and no fewer than there are definitions
-pub record Turns (s : Recipe) (hold model height : List ℕ) (n : ℕ) : Type 0 where
-  pub ground : Ground s hold model
-  pub raised : Raised s height n
-  pub few : length (definitions s) ≤ n
-  pub small : n ≤ 16384
-
--- what a turn has done: nothing was to be raised; some height was; or one is too high for a recipe that row 6 lets pass
-pub record Turned (s : Recipe) (old new : List ℕ) (n : ℕ) (r : Turn) : Type 0 where
+-- what is seen stays as it is, and nothing new is in progress
+pub record Kept (old new : List ℕ) : Type 0 where
   pub long : length new ≡ length old
-  pub same : r ≡ Same → Heights s new
-  pub changed : r ≡ Changed → Raised s new n × (sum old < sum new)
-  pub high : r ≡ TooHigh → fault₆ s ≡ none → ⊥
+  pub same : (x : ℕ) → 1 ≤ getD old x 0 → getD new x 0 ≡ getD old x 0
+  pub busy : (x : ℕ) → getD new x 0 ≡ 65535 → getD old x 0 ≡ 65535
+
+-- what settling d asks: each definition in progress reaches it
+pub record Enters (s : Recipe) (hold model height : List ℕ) (d : ℕ) : Type 0 where
+  pub ground : Ground s hold model
+  pub partly : Partly s height
+  pub definition : In d (definitions s)
+  pub path : (x : ℕ) → getD height x 0 ≡ 65535 → Reach s x d
+
+-- d is settled besides what was
+pub record Grows (s : Recipe) (old new : List ℕ) (d : ℕ) : Type 0 where
+  pub partly : Partly s new
+  pub kept : Kept old new
+  pub own : isSettled (getD new d 0) ≡ true
+
+-- it is, or row 6 applies
+pub record Leaves (s : Recipe) (old new : List ℕ) (d : ℕ) (r : Bool) : Type 0 where
+  pub long : length new ≡ length old
+  pub settled : r ≡ true → Grows s old new d
+  pub cyclic : r ≡ false → fault₆ s ≡ none → ⊥
 
 -- the heights are settled, or row 6 applies
 pub record Settled (s : Recipe) (height : List ℕ) (r : Bool) : Type 0 where
   pub settled : r ≡ true → Heights s height
   pub cyclic : r ≡ false → fault₆ s ≡ none → ⊥
 
--- each height is 1
-pub record Ones (old new : List ℕ) : Type 0 where
+-- each height is 0
+pub record Cleared (old new : List ℕ) : Type 0 where
   pub long : length new ≡ length old
-  pub ones : (d : ℕ) → d < length new → getD new d 0 ≡ 1
+  pub zeros : (d : ℕ) → getD new d 0 ≡ 0

@@ -10,15 +10,8 @@ ghost use Rattle.recipe.specs.Definitions.{definitions};
 ghost use Rattle.recipe.specs.Reaching.{reaches};
 ghost use Rattle.recipe.specs.Reading.{fault₆};
 ghost use Rattle.heights.specs.Search.{Ground, Expands, Expanded};
-ghost use Rattle.heights.specs.Heights.{Judged, Turns, Turned, Settled, Ones};
+ghost use Rattle.heights.specs.Heights.{Judged, Enters, Leaves, Settled, Cleared};
 use names::Found;
-
-// What a turn over the submodel records has done to the heights.
-enum Turn {
-    Same,
-    Changed,
-    TooHigh,
-}
 
 // Marks and queues the models of the submodels of definition e, and answers the queue's new end.
 fn expand(
@@ -95,62 +88,85 @@ fn first_cycle(s: &[u8], w: usize, hold: &[u16], model: &[u16]) -> Found
     Found::Nothing
 }
 
-// Each height is 1.
-fn fill_ones(height: &mut [u16])
-    ensures { λ r. ⌜ Ones (now (height .entry)) (now (height .exit)) ⌝ }
+// Each height is 0: no definition is seen yet.
+fn clear(height: &mut [u16])
+    ensures { λ r. ⌜ Cleared (now (height .entry)) (now (height .exit)) ⌝ }
 {
     let mut i = 0;
     while i < height.len() {
-        height[i] = 1;
+        height[i] = 0;
         i += 1;
     }
 }
 
-// Raises each definition above the models of its submodels, once over all records.
-fn raise(s: &[u8], w: usize, hold: &[u16], model: &[u16], height: &mut [u16], n: usize) -> Turn
-    requires { ⌜ Turns (record { width = w; bytes = now s }) (now hold) (now model) (now height) n ⌝ }
-    ensures { λ r. ⌜ Turned (record { width = w; bytes = now (s .entry) }) (now (height .entry)) (now (height .exit)) n r ⌝ }
+// Settles the heights of definition d and of all that it reaches; false where one reaches itself. A height of 65535 is in progress.
+fn settle_from(
+    s: &[u8],
+    w: usize,
+    hold: &[u16],
+    model: &[u16],
+    height: &mut [u16],
+    d: usize,
+) -> bool
+    requires { ⌜ Enters (record { width = w; bytes = now s }) (now hold) (now model) (now height) d ⌝ }
+    ensures { λ r. ⌜ Leaves (record { width = w; bytes = now (s .entry) }) (now (height .entry)) (now (height .exit)) d r ⌝ }
 {
-    let mut changed = false;
-    let mut p = 0;
+    let seen = height[d];
+    if seen == 65535 {
+        return false;
+    }
+    if seen != 0 {
+        return true;
+    }
+    height[d] = 65535;
+    let mut h = 0;
+    let mut p = d;
     while p < s.len() {
-        let k = recipe::record_length(s[p], w);
-        if s[p] != 4 {
-            p += k;
+        if hold[p] as usize != d {
+            p = s.len();
         } else {
-            let d = hold[p] as usize;
-            let e = model[p] as usize;
-            let h = height[e] as usize;
-            if h < height[d] as usize {
-                p += k;
+            let n = recipe::record_length(s[p], w);
+            if s[p] != 4 {
+                p += n;
             } else {
-                if n < h {
-                    return Turn::TooHigh;
+                let e = model[p] as usize;
+                if !settle_from(s, w, hold, model, height, e) {
+                    return false;
                 }
-                height[d] = (h + 1) as u16;
-                changed = true;
-                p += k;
+                let t = height[e];
+                if t < h {
+                    p += n;
+                } else {
+                    h = t;
+                    p += n;
+                }
             }
         }
     }
-    if changed {
-        return Turn::Changed;
-    }
-    Turn::Same
+    height[d] = h + 1;
+    true
 }
 
-// Turns until nothing is to be raised, or a height is too high.
-fn settle(s: &[u8], w: usize, hold: &[u16], model: &[u16], height: &mut [u16], n: usize) -> bool
-    requires { ⌜ Turns (record { width = w; bytes = now s }) (now hold) (now model) (now height) n ⌝ }
+// Settles the heights of all definitions; false where one reaches itself.
+fn settle(s: &[u8], w: usize, hold: &[u16], model: &[u16], height: &mut [u16]) -> bool
+    requires { ⌜ Ground (record { width = w; bytes = now s }) (now hold) (now model) × (length (now s) ≤ length (now height)) ⌝ }
     ensures { λ r. ⌜ Settled (record { width = w; bytes = now (s .entry) }) (now (height .exit)) r ⌝ }
 {
-    loop {
-        match raise(s, w, hold, model, height, n) {
-            Turn::Same => return true,
-            Turn::TooHigh => return false,
-            Turn::Changed => {}
+    clear(height);
+    let mut p = 0;
+    while p < s.len() {
+        let k = s[p];
+        let n = recipe::record_length(k, w);
+        if k != 1 {
+            p += n;
+        } else {
+            if !settle_from(s, w, hold, model, height, p) {
+                return false;
+            }
+            p += n;
         }
     }
+    true
 }
 
 // The lowest definition that reaches itself; where there is none, the table has each definition's height.
@@ -158,9 +174,7 @@ pub fn find_heights(s: &[u8], w: usize, hold: &[u16], model: &[u16], height: &mu
     requires { ⌜ Ground (record { width = w; bytes = now s }) (now hold) (now model) × (length (now s) ≤ length (now height)) ⌝ }
     ensures { λ r. ⌜ Judged (record { width = w; bytes = now (s .entry) }) (now (height .exit)) r ⌝ }
 {
-    fill_ones(height);
-    let n = s.len() / (1 + w);
-    if settle(s, w, hold, model, height, n) {
+    if settle(s, w, hold, model, height) {
         return Found::Nothing;
     }
     first_cycle(s, w, hold, model)

@@ -9,7 +9,6 @@ use Rattle.heights.proofs.Along.{Along, stands, along-on, stands-fits, 
 use Rattle.heights.proofs.Search.{ex-start, ex-place, ex-along, ex-past, ex-held, ex-skip, ex-marked, ex-one, target-low, tail-low, room}
 use Rattle.heights.proofs.expand.Statement.{statement}
 use Rattle.heights.proofs.expand.Tie as tie
-use Rattle.recipe.proofs.record_length.Reads as record-length-reads
 
 abbrev Inv-loop : tie.InvT-loop
 Inv-loop s w hold model mark₀ queue₀ tail e end₀ p₀ mark queue end p = (e ≤ p) × (p ≤ length s) × Along (record { width = w; bytes = s }) p × Expanded (record { width = w; bytes = s }) e mark₀ queue₀ tail mark queue end p

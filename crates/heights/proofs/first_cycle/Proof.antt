@@ -10,8 +10,6 @@ use Rattle.heights.proofs.Search.{place-definition}
 use Rattle.heights.proofs.Cycles.{isCycle, fault-6, no-model, cycle-is}
 use Rattle.heights.proofs.first_cycle.Statement.{statement}
 use Rattle.heights.proofs.first_cycle.Tie as tie
-use Rattle.heights.proofs.reaches_itself.Reads as reaches-itself-reads
-use Rattle.recipe.proofs.record_length.Reads as record-length-reads
 
 abbrev Inv-loop : tie.InvT-loop
 Inv-loop s w hold model p₀ p = Going (record { width = w; bytes = s }) (isCycle (record { width = w; bytes = s })) p × (p ≤ length s)

@@ -7,7 +7,6 @@ use native.Mathlib.Omega.{arith}
 use borrow.Author.Needs.{needs}
 use Rattle.heights.proofs.reaches_itself.Statement.{statement}
 use Rattle.heights.proofs.reaches_itself.Tie as tie
-use Rattle.heights.proofs.expand.Reads as expand-reads
 
 abbrev Inv-loop : tie.InvT-loop
 Inv-loop s w hold model d mark₀ queue₀ tail₀ head₀ mark queue tail head = Searched (record { width = w; bytes = s }) d mark queue tail head

@@ -1,15 +1,16 @@
--- `heights::fill_ones` meets its contract: the invariant: the first i places are filled.
+-- `heights::clear` meets its contract: the invariant: the first i places are filled.
 -- Assumes nothing.
 use Prim.Native.Nat.{_-_, _≤_}
 use mathlib.Core.Path.{refl}
 use native.Mathlib.Omega.{arith}
 use lib.ListN.{length}
 use Rattle.names.proofs.Tables.{Filled, filled-start, filled-one}
-use Rattle.heights.proofs.fill_ones.Statement.{statement}
-use Rattle.heights.proofs.fill_ones.Tie as tie
+use Rattle.heights.proofs.Settling.{filled-cleared}
+use Rattle.heights.proofs.clear.Statement.{statement}
+use Rattle.heights.proofs.clear.Tie as tie
 
 abbrev Inv-loop : tie.InvT-loop
-Inv-loop height₀ i₀ height i = (i ≤ length height₀) × Filled (λ k. 1) height₀ height i
+Inv-loop height₀ i₀ height i = (i ≤ length height₀) × Filled (λ k. 0) height₀ height i
 
 abbrev μ-loop : tie.MeasureT-loop
 μ-loop height₀ i₀ height i = length height₀ - i
@@ -36,10 +37,10 @@ same-length : tie.Need-same-length Inv-loop μ-loop
 same-length c = c .before .loop .inv .1 .long
 
 returns : tie.Need-returns Inv-loop μ-loop
-returns c = record { long = c .before .loop .inv .1 .long; ones = λ d h. c .before .loop .inv .1 .done d (omega (arith, c .loop-test .left)) }
+returns c = filled-cleared (c .before .loop .inv .1) (c .loop-test .left)
 
-pub fill-ones-spec : {M : Type 1} → statement M
-fill-ones-spec =
+pub clear-spec : {M : Type 1} → statement M
+clear-spec =
     tie.close
     (tie.spec
     Inv-loop
