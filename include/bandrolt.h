@@ -69,7 +69,7 @@ typedef struct bandrolt_read_answer {
 
    The call reads those bytes alone, writes none, ends on all input, keeps no state and allocates nothing.
    `recipe` may be null only with length 0. It needs less than BANDROLT_READ_RECIPE_STACK bytes of stack. */
-#define BANDROLT_READ_RECIPE_STACK 262144
+#define BANDROLT_READ_RECIPE_STACK 327680
 
 bandrolt_read_answer bandrolt_read_recipe(const uint8_t *recipe, size_t length);
 
@@ -102,7 +102,7 @@ typedef struct bandrolt_answer {
    The call reads the recipe alone, writes within `table` alone, ends on all input, keeps no state and allocates
    nothing. The two must not overlap; each may be null only with length 0. It needs less than
    BANDROLT_FLATTEN_STACK bytes of stack. */
-#define BANDROLT_FLATTEN_STACK 524288
+#define BANDROLT_FLATTEN_STACK 589824
 
 bandrolt_answer bandrolt_flatten(const uint8_t *recipe, size_t length, uint8_t *table, size_t room);
 

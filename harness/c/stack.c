@@ -10,7 +10,7 @@
 #include "bandrolt.h"
 #include "recipe.h"
 
-enum { STACK = 1 << 22, PATTERN = 0xA5, RECORD = 205, MOST = 1024, LEVELS = 215 };
+enum { STACK = 1 << 22, PATTERN = 0xA5, RECORD = 205, MOST = 1024, LEVELS = 215, MODELS = 431 };
 
 static uint8_t table[RECORD * MOST], output[RECORD * MOST];
 static recipe cycle, ports, sample_r;
@@ -27,11 +27,13 @@ static void fill_table(void) {
 static void fill_recipes(void) {
     char name[NAME], next[NAME];
 
-    /* Models that reach themselves, which is looked for last. */
-    put_model(&cycle, "m");
-    put_submodel(&cycle, "x", "n");
-    put_model(&cycle, "n");
-    put_submodel(&cycle, "x", "m");
+    /* The longest cycle of models that a recipe can hold: its heights are settled one inside the other. */
+    for (int i = 0; i < MODELS; i++) {
+        snprintf(name, sizeof name, "m%d", i);
+        snprintf(next, sizeof next, "m%d", (i + 1) % MODELS);
+        put_model(&cycle, name);
+        put_submodel(&cycle, "x", next);
+    }
 
     /* The longest way from port to port that a recipe can hold. */
     put_model(&ports, "top");

@@ -69,7 +69,8 @@ settle-from-returns : (t : ℕ) → settle-from-lts.Need-returns (
 ) (settle-from-at t) settle-from.Post settle-from-Inv-loop settle-from-μ-loop
 settle-from-returns t c =
     let x = c .before .before .before .before .before .before .pre .1 in
-    leaves-false refl (meets-itself x (c .if1 .taken))
+    let a = c .before .before .before .before .before .before .args in
+    leaves-false refl (meets-itself x (omega (arith, c .if1 .taken, c .before .slice-known2 .given (a .d))))
 
 settle-from-returns-2 : (t : ℕ) → settle-from-lts.Need-returns-2 (
   record-length-reads.Asked,
@@ -80,7 +81,7 @@ settle-from-returns-2 : (t : ℕ) → settle-from-lts.Need-returns-2 (
 settle-from-returns-2 t c =
     let x = c .before .before .before .before .before .before .before .pre .1 in
     let a = c .before .before .before .before .before .before .before .args in
-    leaves-true (leave-seen x (c .before .if1 .left) (c .if2 .taken) (omega (arith, c .before .before .slice-known2 .given (a .d))))
+    leaves-true (leave-seen x (λ e. omega (arith, e, c .before .if1 .left)) (c .if2 .taken) (omega (arith, c .before .before .slice-known2 .given (a .d))))
 
 settle-from-mul-height : (t : ℕ) → settle-from-lts.Need-mul-height (
   record-length-reads.Asked,
