@@ -10,17 +10,20 @@ use native.Mathlib.Nat.{add-zero}
 use native.Mathlib.Omega.{arith}
 use Rattle.names.specs.Lists.{In}
 use Rattle.names.proofs.Lists.{getD-in, in-getD}
+use Rattle.flat_table.specs.Table.{mostRows}
 use Rattle.recipe.specs.Definitions.{main}
 use Rattle.recipe.specs.Records.{Recipe, isElement}
 use Rattle.recipe.proofs.Definitions.{Held, in-elements}
 use Rattle.tree.specs.Faults.{fault₇}
 use Rattle.tree.specs.Numbers.{firstAt, number, order, run, weight}
 use Rattle.tree.specs.Tree.{Node, definitionAt, node, treeElements}
+use Rattle.tree.proofs.Instances.{elements-most}
 use Rattle.tree.proofs.Nodes.{in-tree}
-use Rattle.tree.proofs.Numbering.{number-few, run-length, tree-numbers, weight-few}
+use Rattle.tree.proofs.Numbering.{number-few, run-length, tree-numbers}
 use Rattle.marks.specs.Gone.{Element, GoneAt}
 use Rattle.marks.specs.Marks.{isGone}
-use Rattle.composer.specs.Writing.{OrdersAre, PlacesAre, elementAt}
+use Rattle.marks.specs.References.{PlacesAre}
+use Rattle.composer.specs.Writing.{OrdersAre, elementAt}
 
 run-at : (k w i d : ℕ) → i < w → getD (run k w) i d ≡ k + i
 run-at k zero i d h = absurd (omega arith)
@@ -56,7 +59,8 @@ module _ (s : Recipe) (h₇ : fault₇ s ≡ none) where
   element-few e l = omega (arith, number-few s h₇ (elementAt s e) (element-in e l), element-number e l)
 
   pub elements-few : length (treeElements s) ≤ 1024
-  elements-few = omega (arith, weight-is, weight-few s h₇)
+  unfolding mostRows
+  elements-few = elements-most s h₇
 
   -- ---- its record
   pub element-held : (x : Node) → In x (treeElements s) → Held s (isElement s) (definitionAt s (x .path)) (x .place)

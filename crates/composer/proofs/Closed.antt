@@ -9,6 +9,7 @@ use lib.ListN.{length, take, drop}
 use lib.Seq.{take-at}
 use lib.Dec.{eqb}
 use borrow.Author.Tests.{eq-eqb}
+use Rattle.names.proofs.Tests.{both}
 use Rattle.flat_table.specs.Table.{flatLength, tableVerdict}
 use Rattle.flat_table.specs.declared.TableAnswer.{TableAnswer}
 use Rattle.recipe.specs.Records.{Recipe}
@@ -25,7 +26,7 @@ twelve = omega arith
 
 -- both numbers are as they should be
 pub both-hold : {a b c : ℕ} → a ≡ 0 → b ≡ c → eqb a 0 && eqb b c ≡ true
-both-hold {a} {b} {c} e f = rw (eq-eqb a 0 e, eq-eqb b c f)
+both-hold {a} {b} {c} e f = both (eq-eqb a 0 e) (eq-eqb b c f)
 
 -- flattening s into the output `before` answers a and leaves `after`
 module _ (s : Recipe) (two : 2 ≤ s .width) (before after : List ℕ) (a : Answer) (answers : a ≡ verdict s (length before)) (leaves : after ≡ written s before) where

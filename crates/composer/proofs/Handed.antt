@@ -3,22 +3,21 @@
 use Prim.Native.Nat.{ℕ, _+_, _*_, _≤_}
 use native.Mathlib.Omega.{arith}
 use native.Mathlib.Nat.{mul-le-mul}
-use mathlib.Core.Path.{_≡_, _∙_}
+use mathlib.Core.Path.{_≡_}
 use mathlib.Core.Bool.{not}
 use mathlib.Core.List.{List}
 use lib.ListN.{length}
 use Rattle.names.proofs.Lists.{keep-length}
-use Rattle.flat_table.specs.Table.{mostRows}
 use Rattle.recipe.specs.Records.{Recipe}
 use Rattle.reading.specs.Answer.{answerOf, judge, judgedAlone, judgedNames, readVerdict}
 use Rattle.reading.specs.Tables.{Tables}
-use Rattle.links.specs.Links.{modelLink, referenceLink}
 use Rattle.tree.specs.Tree.{treeElements}
-use Rattle.tree.proofs.Instances.{elements-most}
 use Rattle.marks.specs.Marks.{isGone, survivors}
 use Rattle.flat_names.specs.Rows.{Prefixed}
 use Rattle.judging.specs.Handed.{Composed}
+use Rattle.judging.proofs.Handing.{models-are, references-are}
 use Rattle.composer.specs.Writing.{Judged, Writing}
+use Rattle.composer.proofs.ByNumber.{elements-few}
 
 -- rows 1 to 6 do not apply
 pub read-passes : {s : Recipe} {hold model height own sub par refs nxt : List ℕ} → Tables s hold model height own sub par refs nxt → readVerdict s ≡ answerOf 0 0
@@ -29,7 +28,6 @@ read-passes T = rw (T .row₁, T .row₂, T .row₃, T .row₄, T .row₅, T .ro
 pub judged-is : {s : Recipe} {hold model height own sub par refs nxt ord inst place within cells go : List ℕ} {insts elems : ℕ}
     → Composed s hold model height own sub par refs nxt ord inst place within cells go insts elems
     → Judged s hold model par refs ord inst place within cells go insts elems
-unfolding modelLink referenceLink
 judged-is C =
     let T = C .tables in
     record {
@@ -48,11 +46,11 @@ judged-is C =
         row₁₂ = C .row₁₂;
       };
       naming = record { wide = T .wide; narrow = T .narrow; short = T .short; whole = T .whole; formed = T .row₃; small = C .row₇ };
-      tables = record { holds = T .holds; models = λ m i k. T .models m i ∙ rw k };
+      tables = record { holds = T .holds; models = models-are _ _ _ _ _ _ _ _ _ T };
       tree = C .instances-are;
       elements = C .elements-are;
       marked = C .marked;
-      references = λ e i k. T .references e i ∙ rw k;
+      references = references-are _ _ _ _ _ _ _ _ _ T;
       steps = C .steps;
       count = C .count;
     }
@@ -70,8 +68,8 @@ module _ {s : Recipe} {hold model par refs ord inst place within cells go : List
 
   -- the survivors are no more than the tree's elements, which are few
   pub survivors-few : length (survivors s) ≤ 1024
-  unfolding survivors mostRows
-  survivors-few = omega (arith, keep-length (λ x. not (isGone s x)) (treeElements s), elements-most s (J .naming .small))
+  unfolding survivors
+  survivors-few = omega (arith, keep-length (λ x. not (isGone s x)) (treeElements s), elements-few s (J .naming .small))
 
   -- so their bytes are, too
   pub bytes-few : (k : ℕ) → k ≡ length (survivors s) → k * (15 * s .width + 25) ≤ 1024 * 985

@@ -22,10 +22,6 @@ use Rattle.composer.specs.Verdicts.{Unrefused}
 unfoldable pub elementAt : Recipe → ℕ → Node
 elementAt s e = getD (treeElements s) e (node [] 0)
 
--- by an element's number, its place
-abbrev pub PlacesAre : Recipe → List ℕ → Type 0
-PlacesAre s place = (x : Node) → In x (treeElements s) → getD place (number s x) 0 ≡ x .place
-
 -- by an element's place, its number in its definition
 abbrev pub OrdersAre : Recipe → List ℕ → Type 0
 OrdersAre s ord = (e : ℕ) → In e (places s) → isElement s e ≡ true → getD ord e 0 ≡ order s (holder s e) e

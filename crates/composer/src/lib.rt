@@ -15,7 +15,8 @@ ghost use Rattle.marks.specs.Marks.{isGone, survivors};
 ghost use Rattle.composer.specs.Flat.{flatField, flatReference, flatRecord, flat};
 ghost use Rattle.reading.specs.Tables.{Tables};
 ghost use Rattle.composer.specs.Verdicts.{recipeOf, refused, verdict, written};
-ghost use Rattle.composer.specs.Writing.{elementAt, PlacesAre, ParentsAre, Named, Referring, Writing, Judged};
+ghost use Rattle.marks.specs.References.{PlacesAre};
+ghost use Rattle.composer.specs.Writing.{elementAt, ParentsAre, Named, Referring, Writing, Judged};
 
 // Flattening's answer: 0, or the number and place of the refusal; the records and bytes written.
 #[repr(C)]
@@ -396,7 +397,7 @@ pub extern "C" fn bandrolt_flatten(recipe: &[u8], table: &mut [u8]) -> Answer
     flatten(recipe, table)
 }
 
-// Flattens, and lets the table check look at what that wrote: it accepts, with the same count, whatever the recipe.
+// Flattens, and asks the table check about the records written, if no row refuses: the answer is always that it accepts them, with the same count.
 pub fn flatten_and_check(recipe: &[u8], table: &mut [u8]) -> bool
     ensures { λ r. ⌜ (r ≡ true) × (now (table .exit) ≡ written (recipeOf (now (recipe .entry))) (now (table .entry))) ⌝ }
 {

@@ -1,8 +1,8 @@
 -- The tables that reading hands up are what the tree and the marks ask, and where no row applies what the writer gets.
 -- Assumes nothing.
 use Prim.Native.Nat.{ℕ, _<_}
-use mathlib.Core.Path.{_≡_, refl, sym, _∙_}
-use mathlib.Core.Bool.{Bool, true, false, _||_}
+use mathlib.Core.Path.{_≡_, sym, _∙_}
+use mathlib.Core.Bool.{true, false, _||_, or-comm}
 use mathlib.Core.Option.{none, Option·getD}
 use mathlib.Core.List.{List}
 use native.Mathlib.Omega.{arith}
@@ -35,12 +35,6 @@ use Rattle.marks.specs.Steps.{StepsAre}
 use Rattle.marks.proofs.Handed.{ready}
 use Rattle.marks.proofs.Pass.{cells-start}
 use Rattle.judging.specs.Handed.{Aimed, Referring, Standing}
-
-or-swap : (a b : Bool) → a || b ≡ true → b || a ≡ true
-or-swap true true e = refl
-or-swap true false e = refl
-or-swap false true e = refl
-or-swap false false e = e
 
 module _ (s : Recipe) where
   not-empty : fault₁ s ≡ none → 0 < length (s .bytes)
@@ -78,17 +72,17 @@ module _ (s : Recipe) where
     unfolding referenceLink
     references-are e i b = t .references e i ∙ rw b
 
-    models-are : (m : ℕ) → In m (places s) → isSubmodel s m ≡ true → getD model m 0 ≡ modelOf s m
+    pub models-are : (m : ℕ) → In m (places s) → isSubmodel s m ≡ true → getD model m 0 ≡ modelOf s m
     unfolding modelLink
     models-are m i b = t .models m i ∙ rw b
 
     subs-are : (r : ℕ) → In r (places s) → isMark s r || isPort s r ≡ true → isBlank (submodelField s r) ≡ false → getD sub r 0 ≡ subOf s r
     unfolding submodelLink submodelOf subOf
-    subs-are r i b f = t .submodels-are r i ∙ rw (or-swap (isMark s r) (isPort s r) b, f)
+    subs-are r i b f = t .submodels-are r i ∙ rw (or-comm (isPort s r) (isMark s r) ∙ b, f)
 
     blanks-are : (r : ℕ) → In r (places s) → isMark s r || isPort s r ≡ true → isBlank (submodelField s r) ≡ true → getD sub r 0 ≡ 0
     unfolding submodelLink
-    blanks-are r i b f = t .submodels-are r i ∙ rw (or-swap (isMark s r) (isPort s r) b, f)
+    blanks-are r i b f = t .submodels-are r i ∙ rw (or-comm (isPort s r) (isMark s r) ∙ b, f)
 
     -- one and the same look-up, as links and as the tree have it
     same-names : (r : ℕ) → namedBy s r ≡ names s r
@@ -99,7 +93,7 @@ module _ (s : Recipe) where
 
     nexts-are : (r : ℕ) → In r (places s) → isMark s r || isPort s r ≡ true → getD nxt r 0 ≡ Option·getD (names s r) 0
     unfolding nextLink
-    nexts-are r i b = t .nexts r i ∙ rw (or-swap (isMark s r) (isPort s r) b, same-names r)
+    nexts-are r i b = t .nexts r i ∙ rw (or-comm (isPort s r) (isMark s r) ∙ b, same-names r)
 
     module _ (count ord : List ℕ) (k : Counted s count ord) where
       -- what planting the tree asks
