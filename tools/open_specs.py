@@ -6,7 +6,7 @@ Run it from the repository's root after a definition was added or renamed in one
 import re
 
 CRATES = {
-    "names": ["Lists", "Names"],
+    "names": ["Lists", "Names", "Judging"],
     "flat_table": ["Classes", "Table"],
     "recipe": ["Records", "Definitions", "Reaching", "Reading"],
     "tree": ["Tree", "Faults"],

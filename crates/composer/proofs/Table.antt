@@ -18,7 +18,8 @@ use Rattle.names.proofs.Tests.{by-cases, by-option, not-both, not-none, three, 
 use Rattle.names.proofs.Lists.{eq-same, same-true, in-keep, keep-length, any-none, first-none, first-is}
 use Rattle.names.proofs.ListOrder.{earlier-first, earlier-second, earlier-keep, keep-earlier, Rising, rising-from, earlier-less, less-earlier, pointwise-left, pointwise-right, pointwise-earlier, earlier-pointwise}
 use Rattle.flat_table.specs.Classes.{parentAllowed, referenceAllowed}
-use Rattle.flat_table.specs.Table.{mostRows, tableJudge, rowsFrom, rowCount, rows, rowKind, rowName, rowParent, rowReference, rowNamed, fault₁₄, isMalformedRow, fault₁₅, isRepeatedRow, fault₁₆, isParentRow, isLinkFault, isParentFault, isReferenceRow, isReferenceFault, isRowFault, fault₁₇, verdictOf, flatWidth, flatLength, tableVerdict}
+use Rattle.flat_table.specs.Table.{mostRows, rowsFrom, rowCount, rows, rowKind, rowName, rowParent, rowReference, rowNamed, fault₁₄, isMalformedRow, fault₁₅, isRepeatedRow, fault₁₆, isParentRow, isLinkFault, isParentFault, isReferenceRow, isReferenceFault, isRowFault, fault₁₇, flatWidth, flatLength, tableVerdict, Closed}
+use Rattle.flat_table.proofs.Closed.{closed-accepted}
 use Rattle.recipe.specs.Records.{Recipe, class, parentField, referenceField}
 use Rattle.recipe.specs.Reading.{fault₃, fault₄, fault₅}
 use Rattle.recipe.proofs.Rows.{element-reads, blank-parent, filled-parent}
@@ -319,7 +320,12 @@ module _ (s : Recipe) where
             first-none (isRowFault (flatWidth (s .width)) (flatLength (s .width)) (flat s)) (recordPlaces s)
             (λ p i. rw (no-parent-fault p i, no-reference-fault p i))
 
+        -- the table is closed
+        pub table-closed : Closed (s .width) (flat s)
+        table-closed = record { row₁₄ = no-fault₁₄; row₁₅ = no-fault₁₅; row₁₆ = no-fault₁₆; row₁₇ = no-fault₁₇ }
+
         -- the table check accepts, with the number of survivors
         pub table-accepted : tableVerdict (s .width) (flat s) ≡ record { number = 0; place = 0; count = length (survivors s) }
-        unfolding tableVerdict verdictOf tableJudge
-        table-accepted = rw (no-fault₁₄, no-fault₁₅, no-fault₁₆, no-fault₁₇, record-count)
+        table-accepted =
+            closed-accepted (s .width) (flat s) table-closed
+            ∙ ap (λ (n : ℕ). record { number = 0; place = 0; count = n }) record-count

@@ -1,7 +1,7 @@
 -- The flat table and its check: 01's "Table check", and 14 to 17 of "Verdicts". A record of a table is named by its offset.
 -- Assumes nothing.
 use Prim.Native.Nat.{ℕ, zero, suc, _+_, _*_, _/_, _%_}
-use Rattle.flat_table.specs.declared.TableAnswer.{TableAnswer}
+use mathlib.Core.Path.{_≡_}
 use mathlib.Core.Bool.{Bool, cond, not, _&&_, _||_}
 use mathlib.Core.Option.{Option, none, some}
 use mathlib.Core.List.{List, [], _∷_}
@@ -9,6 +9,9 @@ use lib.ListN.{length, getD}
 use lib.Dec.{ltb, eqb}
 use Rattle.names.specs.Lists.{any, first, holds, same}
 use Rattle.names.specs.Names.{fieldAt, isName, isNameOrBlank, isBlank}
+use Rattle.names.specs.declared.Refusal.{Refusal}
+use Rattle.names.specs.Judging.{Row, row, judged}
+use Rattle.flat_table.specs.declared.TableAnswer.{TableAnswer}
 use Rattle.flat_table.specs.Classes.{isClass, parentAllowed, referenceAllowed}
 
 -- a table is its bytes
@@ -23,10 +26,10 @@ mostRows = 1024
 abbrev pub refusal : ℕ → ℕ → TableAnswer
 refusal n p = record { number = n; place = p; count = 0 }
 
--- a number is judged only where the lower ones don't apply
-unfoldable pub tableJudge : ℕ → Option ℕ → TableAnswer → TableAnswer
-tableJudge n none next = next
-tableJudge n (some p) next = refusal n p
+-- what the check answers of n records: a refusal, or "Acceptance gives number 0, place 0 and the number of records"
+unfoldable pub tableAnswer : Option Refusal → ℕ → TableAnswer
+tableAnswer none n = record { number = 0; place = 0; count = n }
+tableAnswer (some r) n = refusal (r .number) (r .place)
 
 -- a table whose fields have fieldWidth bytes and whose records rowLength
 module _ (fieldWidth rowLength : ℕ) where
@@ -104,14 +107,13 @@ module _ (fieldWidth rowLength : ℕ) where
   unfoldable pub fault₁₇ : Table → Option ℕ
   fault₁₇ t = first (isRowFault t) (rows t)
 
-  -- "The lowest number that applies is given, then its lowest place"; "Acceptance gives number 0, place 0 and the number of records"
+  -- the rows of the check, in the order of judging
+  unfoldable pub tableRows : Table → List Row
+  tableRows t = row 14 (fault₁₄ t) ∷ row 15 (fault₁₅ t) ∷ row 16 (fault₁₆ t) ∷ row 17 (fault₁₇ t) ∷ []
+
+  -- the first that applies, or acceptance
   unfoldable pub verdictOf : Table → TableAnswer
-  verdictOf t =
-      tableJudge 14 (fault₁₄ t)
-      (tableJudge 15 (fault₁₅ t)
-      (tableJudge 16 (fault₁₆ t)
-      (tableJudge 17 (fault₁₇ t)
-      (record { number = 0; place = 0; count = rowCount t }))))
+  verdictOf t = tableAnswer (judged (tableRows t)) (rowCount t)
 
 -- "three 68-byte fields": four prefixes and a name, of name width w
 unfoldable pub flatWidth : ℕ → ℕ
@@ -125,6 +127,9 @@ flatLength w = 1 + 3 * flatWidth w
 unfoldable pub tableVerdict : ℕ → Table → TableAnswer
 tableVerdict w t = verdictOf (flatWidth w) (flatLength w) t
 
--- "A table is closed when none of 14 to 17 below applies"
-unfoldable pub closed : ℕ → Table → Bool
-closed w t = eqb (tableVerdict w t .number) 0
+-- "A table is closed when none of 14 to 17 below applies"; `proofs/Closed.antt` shows that the check passes closed tables and no others
+pub record Closed (w : ℕ) (t : Table) : Type 0 where
+  pub row₁₄ : fault₁₄ (flatWidth w) (flatLength w) t ≡ none
+  pub row₁₅ : fault₁₅ (flatWidth w) (flatLength w) t ≡ none
+  pub row₁₆ : fault₁₆ (flatWidth w) (flatLength w) t ≡ none
+  pub row₁₇ : fault₁₇ (flatWidth w) (flatLength w) t ≡ none

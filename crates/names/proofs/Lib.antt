@@ -7,3 +7,4 @@ pub mod Tables
 pub mod Orders
 pub mod Runs
 pub mod Names
+pub mod Judging

@@ -4,3 +4,4 @@ pub mod Scans
 pub mod Names
 pub mod Order
 pub mod Runs
+pub mod Judging

@@ -1,17 +1,24 @@
 // Name fields of any width: a name and zeros behind it, or zeros alone. They are read, compared and cut here, and nowhere else.
-// Public calls: read_field, read_optional, is_blank, is_same, comes_before, unpadded. None of them requires anything.
+// Public calls: read_field, read_optional, is_blank, is_same, comes_before, unpadded, refuse. None of them requires anything.
 ghost use mathlib.Core.Path.{_≡_};
 ghost use Prim.Native.Nat.{_+_, _≤_};
 ghost use lib.ListN.{length, drop};
 ghost use Rattle.names.specs.Lists.{same, keepWhile};
 ghost use Rattle.names.specs.Names.{isFirst, isOther, isBlank, text, fieldOf, optionalOf};
 ghost use Rattle.names.specs.Order.{before};
+ghost use Rattle.names.specs.Judging.{refusalAt};
 ghost use Rattle.names.specs.Runs.{otherAt, sameAt, eight, Passed, Run};
 
 // What a search answers: the position, or nothing.
 pub enum Found {
     At(usize),
     Nothing,
+}
+
+// What judging answers: the number and place of the first row that applies, or 0 and 0.
+pub struct Refusal {
+    pub number: u64,
+    pub place: u64,
 }
 
 // What a field reads as: a name of that length, a blank, or neither.
@@ -218,4 +225,14 @@ pub fn unpadded(f: &[u8]) -> &[u8]
         i += 1;
     }
     f
+}
+
+// The refusal by row `number` at `place`.
+pub fn refuse(number: u64, place: usize) -> Refusal
+    ensures { λ r. ⌜ r ≡ refusalAt number place ⌝ }
+{
+    Refusal {
+        number: number,
+        place: place as u64,
+    }
 }
