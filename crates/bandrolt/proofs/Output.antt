@@ -8,53 +8,31 @@ use mathlib.Core.List.{List}
 use lib.ListN.{length, take, drop}
 use lib.Dec.{eqb}
 use lib.Seq.{take-at, take-all, length-take-le}
-use borrow.Author.Tests.{eqb-true, ltb-false}
-use Rattle.names.proofs.Tests.{by-cases, by-option}
+use borrow.Author.Tests.{eqb-true, eqb-false}
+use Rattle.names.proofs.Judging.{row-none}
+use Rattle.names.proofs.Tests.{by-cases}
 use Rattle.flat_table.specs.Table.{flatLength}
 use Rattle.recipe.specs.Records.{Recipe}
-use Rattle.recipe.specs.Reading.{fault₁, fault₂, fault₃, fault₄, fault₅, fault₆}
-use Rattle.recipe.proofs.Rows.{not-at-start}
-use Rattle.tree.specs.Faults.{fault₇, fault₈, fault₁₀}
 use Rattle.marks.specs.Marks.{survivors}
-use Rattle.marks.specs.Faults.{fault₉, fault₁₁, fault₁₂}
 use Rattle.composer.specs.declared.Answer.{Answer}
 use Rattle.composer.specs.Flat.{flat}
-use Rattle.composer.specs.Verdicts.{nameWidth, recipeOf, fault₁₃, accepted, refused, judge, judged, verdict, written}
+use Rattle.composer.specs.Verdicts.{nameWidth, recipeOf, refusalRows, accepted, verdict, written}
 use Rattle.composer.specs.Printed.{printedOf, printed, inputRoom, outputRoom, programOutput}
-use Rattle.composer.proofs.Verdicts.{unrefused, enough-room, accepts, written-table, written-length}
+use Rattle.composer.proofs.Verdicts.{unrefused, enough-room, accepts, refusal-counts, written-table, written-length}
 use Rattle.composer.proofs.Lengths.{flat-bytes}
 use Rattle.bandrolt.specs.Text.{Stands}
 use Rattle.bandrolt.proofs.Texts.{stands-length}
 
--- a refusal's bytes are none
-judge-bytes : (n : ℕ) (o : Option ℕ) (a : Answer) (m : ℕ) → a .bytes ≤ m → judge n o a .bytes ≤ m
-unfolding judge refused
-judge-bytes n none a m h = h
-judge-bytes n (some p) a m h = omega arith
-
-room-bytes : (s : Recipe) (room : ℕ) → judge 13 (fault₁₃ s room) (accepted (s .width) (length (survivors s))) .bytes ≤ room
-unfolding judge refused accepted fault₁₃
-room-bytes s room =
-    by-option (fault₁₃ s room)
-    (λ e. rw e (ltb-false room (flatLength (s .width) * length (survivors s)) (not-at-start _ e)))
-    (λ p e. rw e (omega arith))
-
 -- no more bytes are told than were lent
 pub bytes-within : (s : Recipe) (room : ℕ) → verdict s room .bytes ≤ room
-unfolding verdict judged
+unfolding accepted
 bytes-within s room =
-    judge-bytes 1 (fault₁ s) _ room
-    (judge-bytes 2 (fault₂ s) _ room
-    (judge-bytes 3 (fault₃ s) _ room
-    (judge-bytes 4 (fault₄ s) _ room
-    (judge-bytes 5 (fault₅ s) _ room
-    (judge-bytes 6 (fault₆ s) _ room
-    (judge-bytes 7 (fault₇ s) _ room
-    (judge-bytes 8 (fault₈ s) _ room
-    (judge-bytes 9 (fault₉ s) _ room
-    (judge-bytes 10 (fault₁₀ s) _ room
-    (judge-bytes 11 (fault₁₁ s) _ room
-    (judge-bytes 12 (fault₁₂ s) _ room (room-bytes s room))))))))))))
+    by-cases (eqb (verdict s room .number) 0)
+    (λ b.
+    let e = eqb-true (verdict s room .number) 0 b in
+    let fits = enough-room s room e in
+    omega (arith, ap (λ (a : Answer). a .bytes) (accepts s room (unrefused s room e) fits)))
+    (λ b. omega (arith, refusal-counts s room (eqb-false (verdict s room .number) 0 b) .1))
 
 module _ (s : Recipe) (two : 2 ≤ s .width) (out : List ℕ) where
   -- the bytes told of are the flat table
@@ -63,7 +41,7 @@ module _ (s : Recipe) (two : 2 ≤ s .width) (out : List ℕ) where
   written-bytes e =
       let h = unrefused s (length out) e in
       let fits = enough-room s (length out) e in
-      let long = flat-bytes s two (h .row₃) (h .row₇) (h .row₅) in
+      let long = flat-bytes s two (row-none 3 (refusalRows s) h) (row-none 7 (refusalRows s) h) (row-none 5 (refusalRows s) h) in
       rw (written-table s out e, accepts s (length out) h fits) (take-at (flat s) (drop (length (flat s)) out) (flatLength (s .width) * length (survivors s)) long)
 
   -- what is printed of them is what is printed of the recipe

@@ -10,11 +10,10 @@ use native.Mathlib.Nat.{add-zero}
 use native.Mathlib.Omega.{arith}
 use Rattle.names.specs.Lists.{In}
 use Rattle.names.proofs.Lists.{getD-in, in-getD}
-use Rattle.flat_table.specs.Table.{mostRows}
 use Rattle.recipe.specs.Definitions.{main}
 use Rattle.recipe.specs.Records.{Recipe, isElement}
 use Rattle.recipe.proofs.Definitions.{Held, in-elements}
-use Rattle.tree.specs.Faults.{fault₇}
+use Rattle.tree.specs.Faults.{fault₇, mostElements}
 use Rattle.tree.specs.Numbers.{firstAt, number, order, run, weight}
 use Rattle.tree.specs.Tree.{Node, definitionAt, node, treeElements}
 use Rattle.tree.proofs.Instances.{elements-most}
@@ -59,7 +58,7 @@ module _ (s : Recipe) (h₇ : fault₇ s ≡ none) where
   element-few e l = omega (arith, number-few s h₇ (elementAt s e) (element-in e l), element-number e l)
 
   pub elements-few : length (treeElements s) ≤ 1024
-  unfolding mostRows
+  unfolding mostElements
   elements-few = elements-most s h₇
 
   -- ---- its record

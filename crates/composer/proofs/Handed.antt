@@ -5,13 +5,17 @@ use native.Mathlib.Omega.{arith}
 use native.Mathlib.Nat.{mul-le-mul}
 use mathlib.Core.Path.{_≡_}
 use mathlib.Core.Bool.{not}
-use mathlib.Core.List.{List}
+use mathlib.Core.List.{List, _++_}
 use lib.ListN.{length}
+use Rattle.names.specs.Judging.{NoneApplies}
+use Rattle.names.proofs.Judging.{none-join}
 use Rattle.names.proofs.Lists.{keep-length}
 use Rattle.recipe.specs.Records.{Recipe}
-use Rattle.reading.specs.Answer.{answerOf, judge, judgedAlone, judgedNames, readVerdict}
+use Rattle.recipe.specs.Reading.{formRows, namingRows}
 use Rattle.reading.specs.Tables.{Tables}
+use Rattle.tree.specs.Faults.{treeRows, targetRows}
 use Rattle.tree.specs.Tree.{treeElements}
+use Rattle.marks.specs.Faults.{markRows, referenceRows}
 use Rattle.marks.specs.Marks.{isGone, survivors}
 use Rattle.flat_names.specs.Rows.{Prefixed}
 use Rattle.judging.specs.Handed.{Composed}
@@ -20,31 +24,19 @@ use Rattle.composer.specs.Writing.{Judged, Writing}
 use Rattle.composer.proofs.ByNumber.{elements-few}
 
 -- rows 1 to 6 do not apply
-pub read-passes : {s : Recipe} {hold model height own sub par refs nxt : List ℕ} → Tables s hold model height own sub par refs nxt → readVerdict s ≡ answerOf 0 0
-unfolding readVerdict judgedAlone judgedNames judge
-read-passes T = rw (T .row₁, T .row₂, T .row₃, T .row₄, T .row₅, T .row₆)
+pub read-passes : {s : Recipe} {hold model height own sub par refs nxt : List ℕ} → Tables s hold model height own sub par refs nxt → NoneApplies (formRows s ++ namingRows s)
+read-passes T = (T .row₁, (T .row₂, (T .row₃, (T .row₄, (T .row₅, (T .row₆, tt))))))
 
 -- nor do rows 7 to 12
 pub judged-is : {s : Recipe} {hold model height own sub par refs nxt ord inst place within cells go : List ℕ} {insts elems : ℕ}
     → Composed s hold model height own sub par refs nxt ord inst place within cells go insts elems
     → Judged s hold model par refs ord inst place within cells go insts elems
-judged-is C =
+judged-is {s} C =
     let T = C .tables in
     record {
-      unrefused = record {
-        row₁ = T .row₁;
-        row₂ = T .row₂;
-        row₃ = T .row₃;
-        row₄ = T .row₄;
-        row₅ = T .row₅;
-        row₆ = T .row₆;
-        row₇ = C .row₇;
-        row₈ = C .row₈;
-        row₉ = C .row₉;
-        row₁₀ = C .row₁₀;
-        row₁₁ = C .row₁₁;
-        row₁₂ = C .row₁₂;
-      };
+      unrefused =
+          none-join (formRows s ++ namingRows s) (treeRows s ++ (targetRows s ++ (markRows s ++ referenceRows s))) (read-passes T)
+          (C .row₇, (C .row₈, (C .row₉, (C .row₁₀, (C .row₁₁, (C .row₁₂, tt))))));
       naming = record { wide = T .wide; narrow = T .narrow; short = T .short; whole = T .whole; formed = T .row₃; small = C .row₇ };
       tables = record { holds = T .holds; models = models-are _ _ _ _ _ _ _ _ _ T };
       tree = C .instances-are;

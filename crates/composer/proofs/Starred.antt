@@ -1,4 +1,4 @@
--- The starred recipes of 01, by computation: answers, every byte of the output, the table check's line, and R as it is printed.
+-- The starred recipes of 01, by computation: answers, every byte of the output, the table check's line, and what the program prints of R.
 -- Assumes nothing.
 use mathlib.Core.Path.{_≡_, refl}
 use mathlib.Core.Bool.{true}

@@ -21,21 +21,23 @@ use Rattle.flat_table.specs.Classes.{parentAllowed, referenceAllowed}
 use Rattle.flat_table.specs.Table.{mostRows, rowsFrom, rowCount, rows, rowKind, rowName, rowParent, rowReference, rowNamed, fault₁₄, isMalformedRow, fault₁₅, isRepeatedRow, fault₁₆, isParentRow, isLinkFault, isParentFault, isReferenceRow, isReferenceFault, isRowFault, fault₁₇, flatWidth, flatLength, tableVerdict, Closed}
 use Rattle.flat_table.proofs.Closed.{closed-accepted}
 use Rattle.recipe.specs.Records.{Recipe, class, parentField, referenceField}
-use Rattle.recipe.specs.Reading.{fault₃, fault₄, fault₅}
+use Rattle.recipe.specs.Reading.{fault₃, fault₄, fault₅, fault₆}
 use Rattle.recipe.proofs.Rows.{element-reads, blank-parent, filled-parent}
 use Rattle.tree.specs.Tree.{Node, node, definitionAt, treeElements, parentOf, referenceOf}
-use Rattle.tree.specs.Faults.{fault₇}
-use Rattle.tree.proofs.Nodes.{in-tree, parent-in}
+use Rattle.tree.specs.Faults.{fault₇, mostElements}
+use Rattle.tree.proofs.Nodes.{in-tree, parent-in, reference-in}
 use Rattle.tree.proofs.Instances.{elements-most}
 use Rattle.tree.proofs.Order.{elements-distinct, instance-order}
 use Rattle.marks.specs.Marks.{isGone, survivors, chainEnd}
-use Rattle.marks.specs.Faults.{fault₁₂}
+use Rattle.marks.specs.Faults.{fault₉, fault₁₂}
+use Rattle.marks.proofs.Conflicts.{chain-exists}
+use Rattle.marks.proofs.IsGone.{not-gone}
 use Rattle.marks.proofs.Survivors.{survivor, parent-class, parent-survives, blank-reference, filled-reference, reference-end, end-survives}
 use Rattle.composer.specs.Flat.{flatField, flatReference, flatRecord, flat}
 use Rattle.flat_names.proofs.OneName.{flat-names-differ}
 use Rattle.composer.proofs.Lengths.{name-field, parent-field, reference-field, reference-end-in, record-bytes, flat-bytes}
 use Rattle.composer.proofs.Characters.{field-name, field-tells, field-blank, field-filled, field-reads}
-use Rattle.composer.specs.FlatRecords.{recordPlaces, nameAt, parentAt, referenceAt, RecordOf, NamesOne, ParentNamed, ReferenceNamed}
+use Rattle.composer.specs.FlatRecords.{recordPlaces, nameAt, parentAt, referenceAt, RecordOf, NamesOne, ParentNamed, ReferenceNamed, Ended}
 
 module _ (s : Recipe) where
   module _ (two : 2 ≤ s .width) (h₃ : fault₃ s ≡ none) (h₅ : fault₅ s ≡ none) (h₇ : fault₇ s ≡ none) where
@@ -129,6 +131,15 @@ module _ (s : Recipe) where
     pub place-of : (x : Node) → In x (survivors s) → (p : ℕ) × In p (recordPlaces s) × RecordOf s p x
     place-of x i = pointwise-right (RecordOf s) (recordPlaces s) (survivors s) x records i
 
+    -- "the end of the replacement chain, never a gone element", of a survivor's reference
+    pub reference-ended : fault₆ s ≡ none → fault₉ s ≡ none → fault₁₂ s ≡ none → (x y : Node) → In x (survivors s) → referenceOf s x ≡ some y → Ended s y
+    reference-ended h₆ h₉ h₁₂ x y i e =
+        let j : In y (treeElements s) = reference-in s x y (survivor s x i .0) e in
+        let c = chain-exists s h₉ h₃ h₅ h₆ h₇ y j in
+        let k : In (chainEnd s y) (survivors s) = end-survives s h₁₂ h₅ h₇ x y i e in
+        let z = survivor s (chainEnd s y) k in
+        record { inside = j; steps = c .0; chain = c .1; survives = k; present = not-gone s h₅ (chainEnd s y) (z .0) (z .1) }
+
     module _ (h₄ : fault₄ s ≡ none) where
       -- ---- "no two records with one name"
       same-survivor : (x y : Node) → In x (survivors s) → In y (survivors s) → flatField s (some x) ≡ flatField s (some y) → x ≡ y
@@ -166,7 +177,7 @@ module _ (s : Recipe) where
       names-one z k f e =
           let q = place-of z k in
           let n : nameAt s (q .0) ≡ f = q .2 .name ∙ sym e in
-          record { place = q .0; listed = q .1; of = q .2; named = n; only = λ j i h. one-record j (q .0) i (q .1) (h ∙ sym n) }
+          record { survives = k; place = q .0; listed = q .1; of = q .2; named = n; only = λ j i h. one-record j (q .0) i (q .1) (h ∙ sym n) }
 
       -- "each filled parent .. field is the name of exactly one record"
       pub parent-named : (p : ℕ) → In p (recordPlaces s) → isBlank (parentAt s p) ≡ false → ParentNamed s p
@@ -202,6 +213,7 @@ module _ (s : Recipe) where
             of = n .2;
             referenced = y;
             is = e;
+            inside = reference-in s x y (survivor s x (n .1) .0) e;
             names = names-one (chainEnd s y) (end-survives s h₁₂ h₅ h₇ x y (n .1) e) (referenceAt s p) (f (some y) e);
           })
 
@@ -221,7 +233,7 @@ module _ (s : Recipe) where
       module _ (h₁₂ : fault₁₂ s ≡ none) where
         -- ---- rows 14 to 17
         no-fault₁₄ : fault₁₄ (flatWidth (s .width)) (flatLength (s .width)) (flat s) ≡ none
-        unfolding fault₁₄ survivors
+        unfolding fault₁₄ survivors mostRows mostElements
         no-fault₁₄ =
             let l : ℕ = flatLength (s .width) in
             let n : ℕ = length (survivors s) in

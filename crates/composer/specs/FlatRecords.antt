@@ -7,8 +7,8 @@ use mathlib.Core.List.{List}
 use Rattle.names.specs.Lists.{In}
 use Rattle.flat_table.specs.Table.{rows, rowKind, rowName, rowParent, rowReference, flatWidth, flatLength}
 use Rattle.recipe.specs.Records.{Recipe, class}
-use Rattle.tree.specs.Tree.{Node, parentOf, referenceOf}
-use Rattle.marks.specs.Marks.{survivors, chainEnd}
+use Rattle.tree.specs.Tree.{Node, treeElements, parentOf, referenceOf}
+use Rattle.marks.specs.Marks.{Gone, survivors, Chain, chainEnd}
 use Rattle.composer.specs.Flat.{flatField, flatReference, flat}
 
 module _ (s : Recipe) where
@@ -39,8 +39,9 @@ module _ (s : Recipe) where
     pub parent : parentAt p ≡ flatField s (parentOf s x)
     pub reference : referenceAt p ≡ flatField s (flatReference s x)
 
-  -- the field f is the name of exactly one record, that of the element z
+  -- the field f is the name of exactly one record, that of the element z, which survives
   pub record NamesOne (f : List ℕ) (z : Node) : Type 0 where
+    pub survives : In z (survivors s)
     pub place : ℕ
     pub listed : In place recordPlaces
     pub of : RecordOf place z
@@ -56,11 +57,20 @@ module _ (s : Recipe) where
     pub is : parentOf s survivor ≡ some parent
     pub names : NamesOne (parentAt p) parent
 
-  -- the record at p is that of a survivor, and its reference field names that of the end of the chain from the element that the survivor's reference names
+  -- the record at p is that of a survivor, and its reference field names that of the end of the chain from the element of the tree that the survivor's reference names
   pub record ReferenceNamed (p : ℕ) : Type 0 where
     pub survivor : Node
     pub survives : In survivor (survivors s)
     pub of : RecordOf p survivor
     pub referenced : Node
     pub is : referenceOf s survivor ≡ some referenced
+    pub inside : In referenced (treeElements s)
     pub names : NamesOne (referenceAt p) (chainEnd s referenced)
+
+  -- y is an element of the tree, and the chain from it leads to its end, which survives and so is not gone
+  pub record Ended (y : Node) : Type 0 where
+    pub inside : In y (treeElements s)
+    pub steps : ℕ
+    pub chain : Chain s steps y (chainEnd s y)
+    pub survives : In (chainEnd s y) (survivors s)
+    pub present : Gone s (chainEnd s y) → ⊥

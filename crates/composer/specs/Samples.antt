@@ -3,16 +3,16 @@
 use Prim.Native.Nat.{ℕ, _-_, _*_}
 use Prim.Native.String.{String}
 use mathlib.Core.Bool.{Bool, _&&_}
-use mathlib.Core.List.{List, [], _∷_, _++_}
+use mathlib.Core.List.{List, [], _∷_, _++_, map}
 use lib.ListN.{length, replicate}
 use lib.Dec.{eqb}
 use Rattle.names.specs.Lists.{every, same, padded}
 use Rattle.flat_table.specs.Table.{mostRows, flatWidth, flatLength, tableVerdict}
 use Rattle.flat_table.specs.declared.TableAnswer.{TableAnswer}
-use Rattle.recipe.specs.Records.{Recipe, bodyLengths}
+use Rattle.recipe.specs.Records.{Recipe, bodies, bytesOf}
 use Rattle.composer.specs.declared.Answer.{Answer}
 use Rattle.composer.specs.Verdicts.{nameWidth, recipeOf, refused, verdict, written}
-use Rattle.composer.specs.Printed.{characters, printed}
+use Rattle.composer.specs.Printed.{characters, programOutput}
 
 -- ---- recipes as one writes them down
 
@@ -216,11 +216,11 @@ answersOf a n p c = eqb (a .number) n && eqb (a .place) p && eqb (a .count) c
 unfoldable pub tableHolds : Bool
 tableHolds = answersOf (tableVerdict nameWidth wrongTable) 17 205 0 && answersOf (tableVerdict nameWidth tableR) 0 0 2
 
--- "Printed": sample R, and a refusal
+-- "Printed": what the program writes of sample R, and of a refusal
 unfoldable pub printedHolds : Bool
 printedHolds =
-    same (printed (recipeOf sampleR) 820) (characters "flat 2\n1 c - -\n2 a__s - c\n")
-    && same (printed (recipeOf (sample (element "c" 3 "" "") aOfCell cForV)) 820) (characters "refused 10 at 76\n")
+    same (programOutput sampleR) (characters "flat 2\n1 c - -\n2 a__s - c\n")
+    && same (programOutput (sample (element "c" 3 "" "") aOfCell cForV)) (characters "refused 10 at 76\n")
 
 -- "The starred recipes form one table": each starred line of 01
 unfoldable pub starredHold : Bool
@@ -229,7 +229,7 @@ starredHold = every holdsOf starred && tableHolds && printedHolds
 -- 01's numbers: column "Bytes after kind", "68-byte fields", "205 bytes", "209,920"
 unfoldable pub lengthsHold : Bool
 lengthsHold =
-    same (bodyLengths nameWidth) (0 ∷ 12 ∷ 37 ∷ 37 ∷ 24 ∷ 25 ∷ 37 ∷ 37 ∷ [])
+    same (map (bytesOf nameWidth) bodies) (0 ∷ 12 ∷ 37 ∷ 37 ∷ 24 ∷ 25 ∷ 37 ∷ 37 ∷ [])
     && eqb (flatWidth nameWidth) 68
     && eqb (flatLength nameWidth) 205
     && eqb (mostRows * flatLength nameWidth) 209920

@@ -1,7 +1,6 @@
 // Flattening: a recipe's answer, and its flat table, written from the tables of the floors below.
 // Public calls, which require nothing: flatten; bandrolt_flatten, the same exported to C; flatten_and_check.
 ghost use mathlib.Core.Path.{_≡_};
-ghost use mathlib.Core.Bool.{true};
 ghost use mathlib.Core.Option.{some};
 ghost use mathlib.Core.List.{_++_};
 ghost use Prim.Native.Nat.{_+_, _-_, _*_, _<_, _≤_};
@@ -40,7 +39,7 @@ fn gone_at(
     requires { ⌜ Marked (record { width = w; bytes = now s }) (now cells) (now ord) (now par) × (PlacesAre (record { width = w; bytes = now s }) (now place) × (e < length (treeElements (record { width = w; bytes = now s })))) ⌝ }
     ensures { λ r. ⌜ r ≡ isGone (record { width = w; bytes = now (s .entry) }) (elementAt (record { width = w; bytes = now (s .entry) }) e) ⌝ }
 {
-    let q = tree::wide(place[e]);
+    let q = recipe::wide(place[e]);
     marks::is_gone(s, w, e, q, ord, par, cells)
 }
 
@@ -85,8 +84,8 @@ fn put_element(
     requires { ⌜ Named (record { width = w; bytes = now s }) (now place) (now within) (now pre) (now len) × ((e < length (treeElements (record { width = w; bytes = now s }))) × (at + flatWidth w ≤ length (now out))) ⌝ }
     ensures { λ _. ⌜ now (out .exit) ≡ sets (now (out .entry)) at (flatField (record { width = w; bytes = now (s .entry) }) (some (elementAt (record { width = w; bytes = now (s .entry) }) e))) ⌝ }
 {
-    let q = tree::wide(place[e]);
-    let i = tree::wide(within[e]);
+    let q = recipe::wide(place[e]);
+    let i = recipe::wide(within[e]);
     flat_names::put_name(s, w, pre, len, i, q, out, at);
 }
 
@@ -106,13 +105,13 @@ fn put_parent(
     requires { ⌜ Named (record { width = w; bytes = now s }) (now place) (now within) (now pre) (now len) × (ParentsAre (record { width = w; bytes = now s }) (now par) × ((e < length (treeElements (record { width = w; bytes = now s }))) × (at + flatWidth w ≤ length (now out)))) ⌝ }
     ensures { λ _. ⌜ now (out .exit) ≡ sets (now (out .entry)) at (flatField (record { width = w; bytes = now (s .entry) }) (parentOf (record { width = w; bytes = now (s .entry) }) (elementAt (record { width = w; bytes = now (s .entry) }) e))) ⌝ }
 {
-    let q = tree::wide(place[e]);
-    let m = tree::wide(par[q]);
+    let q = recipe::wide(place[e]);
+    let m = recipe::wide(par[q]);
     if m == 0 {
         flat_names::put_zeros(out, at, 5 * w + 8);
         return;
     }
-    let i = tree::wide(within[e]);
+    let i = recipe::wide(within[e]);
     flat_names::put_name(s, w, pre, len, i, m, out, at);
 }
 
@@ -121,8 +120,8 @@ fn sibling(ord: &[u16; 16384], e: usize, q: usize, m: usize) -> usize
     requires { ⌜ (q < 16384) × ((m < 16384) × ((e < 1024) × (getD (now ord) q 0 ≤ e))) ⌝ }
     ensures { λ r. ⌜ r ≡ e - getD (now (ord .entry)) q 0 + getD (now (ord .entry)) m 0 ⌝ }
 {
-    let a = tree::wide(ord[q]);
-    let b = tree::wide(ord[m]);
+    let a = recipe::wide(ord[q]);
+    let b = recipe::wide(ord[m]);
     e - a + b
 }
 
@@ -144,8 +143,8 @@ fn put_reference(
     requires { ⌜ Named (record { width = w; bytes = now s }) (now place) (now within) (now pre) (now len) × (Referring (record { width = w; bytes = now s }) (now ord) (now refs) (now go) × ((e < length (treeElements (record { width = w; bytes = now s }))) × (at + flatWidth w ≤ length (now out)))) ⌝ }
     ensures { λ _. ⌜ now (out .exit) ≡ sets (now (out .entry)) at (flatField (record { width = w; bytes = now (s .entry) }) (flatReference (record { width = w; bytes = now (s .entry) }) (elementAt (record { width = w; bytes = now (s .entry) }) e))) ⌝ }
 {
-    let q = tree::wide(place[e]);
-    let m = tree::wide(refs[q]);
+    let q = recipe::wide(place[e]);
+    let m = recipe::wide(refs[q]);
     if m == 0 {
         flat_names::put_zeros(out, at, 5 * w + 8);
         return;
@@ -178,7 +177,7 @@ fn put_record(
     let a = at + 1;
     let b = a + f;
     let c = b + f;
-    out[at] = s[tree::wide(place[e]) + 1 + w];
+    out[at] = s[recipe::wide(place[e]) + 1 + w];
     put_element(s, w, place, within, pre, len, e, out, a);
     put_parent(s, w, par, place, within, pre, len, e, out, b);
     put_reference(s, w, ord, refs, go, place, within, pre, len, e, out, c);
@@ -397,15 +396,11 @@ pub extern "C" fn bandrolt_flatten(recipe: &[u8], table: &mut [u8]) -> Answer
     flatten(recipe, table)
 }
 
-// Flattens, and asks the table check about the records written, if no row refuses: the answer is always that it accepts them, with the same count.
-pub fn flatten_and_check(recipe: &[u8], table: &mut [u8]) -> bool
-    ensures { λ r. ⌜ (r ≡ true) × (now (table .exit) ≡ written (recipeOf (now (recipe .entry))) (now (table .entry))) ⌝ }
+// Flattens, and asks the table check about the bytes written, none on a refusal: its own answer, which is always acceptance with the count of flattening.
+pub fn flatten_and_check(recipe: &[u8], table: &mut [u8]) -> flat_table::TableAnswer
+    ensures { λ r. ⌜ (r ≡ record { number = 0; place = 0; count = verdict (recipeOf (now (recipe .entry))) (length (now (table .entry))) .count }) × (now (table .exit) ≡ written (recipeOf (now (recipe .entry))) (now (table .entry))) ⌝ }
 {
     let a = flatten(recipe, table);
-    if a.number != 0 {
-        return true;
-    }
     let n = a.bytes as usize;
-    let c = flat_table::bandrolt_check_table(&table[0..n]);
-    (c.number == 0) & (c.count == a.count)
+    flat_table::bandrolt_check_table(&table[0..n])
 }

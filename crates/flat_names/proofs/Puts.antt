@@ -5,25 +5,22 @@ use Prim.Native.Nat.{ℕ, _+_, _*_, _-_, _≤_, _<_}
 use native.Mathlib.Omega.{arith}
 use native.Mathlib.Nat.{mul-le-mul-left, mul-le-mul-right}
 use native.Mathlib.Numerals.{add-one}
-use mathlib.Core.Bool.{true, not, _&&_}
 use mathlib.Core.List.{List, [], _∷_, _++_, append-assoc}
-use lib.ListN.{length, getD, set, take, drop, replicate, length-append, length-set, length-drop, length-replicate, replicate-append-replicate, take-append-drop}
+use lib.ListN.{length, getD, set, take, drop, replicate, length-append, length-set, length-drop, length-replicate, replicate-append-replicate}
 use lib.Seq.{sets, take-suc, getD-drop, length-take-le}
 use lib.Dec.{ltb}
-use borrow.Author.Tests.{eqb-true, ltb-false, not-false}
+use borrow.Author.Tests.{ltb-false}
 use Rattle.names.specs.Lists.{In, padded}
-use Rattle.names.specs.Names.{text, nonZero, isBlank, isName, isNameOrBlank, areNameCharacters, fieldAt}
-use Rattle.names.proofs.Names.{blank-zeros}
-use Rattle.names.proofs.Tests.{and-left, and-right, or-none-left}
-use Rattle.names.proofs.Lists.{none-first, take-while, getD-in}
-use Rattle.flat_table.specs.Classes.{isClass}
+use Rattle.names.specs.Names.{fieldAt}
+use Rattle.names.proofs.Names.{name-padding}
+use Rattle.names.proofs.Tests.{or-none-left}
+use Rattle.names.proofs.Lists.{getD-in}
 use Rattle.flat_table.specs.Table.{flatWidth}
-use Rattle.recipe.specs.Records.{Recipe, kind, places, isModel, isElement, class, field, firstField, name, parentField}
+use Rattle.recipe.specs.Records.{Recipe, field, firstField, name}
 use Rattle.recipe.specs.Definitions.{main, elements}
-use Rattle.recipe.specs.Reading.{isForm, isElementForm, fault₃}
 use Rattle.recipe.proofs.Definitions.{in-elements, name-short}
 use Rattle.recipe.proofs.Going.{class-low}
-use Rattle.recipe.proofs.Rows.{not-at-start}
+use Rattle.recipe.proofs.Rows.{not-at-start, first-name}
 use Rattle.tree.specs.Tree.{instances, node, treeElements, definitionAt, Submodels}
 use Rattle.tree.specs.Faults.{fault₇, isTooLarge, mostInstances}
 use Rattle.tree.proofs.Nodes.{in-tree}
@@ -81,17 +78,7 @@ parts out o₁ o₂ o₃ at a b c l w la lb e₁ e₂ e₃ =
     let on : at + (l + w) ≡ at + length (a ++ b) = omega (arith, length-append a b) in
     e₃ ∙ (ap (λ (o : List ℕ). sets o (at + (l + w)) c) two ∙ (ap (λ (k : ℕ). sets (sets out at (a ++ b)) k c) on ∙ sym (sets-append (a ++ b) out at c)))
 
--- ---- a name's field is the name and zeros
-name-padding : (w : ℕ) (f : List ℕ) → isName f ≡ true → length f ≡ w → f ≡ padded w (text f)
-unfolding isName text padded
-name-padding w f e l =
-    let t = text f in
-    let b = blank-zeros (drop (length t) f) (and-right (areNameCharacters t) (isBlank (drop (length t) f)) e) in
-    let n : length (drop (length t) f) ≡ w - length t = rw (length-drop, l) in
-    sym (take-append-drop (length t) f)
-    ∙ (ap (λ (k : List ℕ). k ++ drop (length t) f) (take-while nonZero f)
-    ∙ (ap (λ (k : List ℕ). t ++ k) b ∙ ap (λ (k : ℕ). t ++ replicate k 0) n))
-
+-- ---- the field of a flat name
 -- the prefixes, the name's field and zeros are the flat name's field
 padded-parts : (w : ℕ) (p n : List ℕ) → length p ≤ 4 * w + 8 → length n ≤ w
     → p ++ padded w n ++ replicate (4 * w + 8 - length p) 0 ≡ padded (5 * w + 8) (p ++ n)
@@ -141,17 +128,6 @@ module _ (s : Recipe) (x : Naming s) where
       let four : (s .width + 2) * length path ≤ (s .width + 2) * 4 = mul-le-mul-left (s .width + 2) (at-most-four s (x .small) path p) in
       omega (arith, prefixes-bytes s (let t : 2 ≤ s .width = omega arith in t) (x .formed) main path p)
 
-  -- an element's field reads as a name
-  element-name : (d q : ℕ) → In q (elements s d) → isName (firstField s q) ≡ true
-  unfolding fault₃ isForm isElementForm isModel isElement
-  element-name d q i =
-      let r = in-elements s d q i in
-      let k : kind s q ≡ 2 = eqb-true (kind s q) 2 (r .passes) in
-      let f : isForm s q ≡ true = not-false (isForm s q) (none-first (λ p. not (isForm s p)) (places s) q (x .formed) (r .placed)) in
-      let g : isElementForm s q ≡ true = rw k at f in
-      let n = isName (firstField s q) in
-      and-left n _ (and-left (n && isClass (class s q)) _ (and-left (n && isClass (class s q) && isNameOrBlank (parentField s q)) _ g))
-
   pub element-low : (d q : ℕ) → In q (elements s d) → q + 1 + s .width < length (s .bytes)
   element-low d q i = let r = in-elements s d q i in class-low s q (r .placed) (r .passes)
 
@@ -162,7 +138,7 @@ module _ (s : Recipe) (x : Naming s) where
       let f = take (s .width) (drop (q + 1 + 0) (s .bytes)) in
       let l : length f ≡ s .width = length-take-le (s .width) (drop (q + 1 + 0) (s .bytes)) (omega (arith, length-drop (q + 1 + 0) (s .bytes))) in
       let z : q + 1 ≡ q + 1 + 0 = omega arith in
-      ap (λ (k : ℕ). take (s .width) (drop k (s .bytes))) z ∙ name-padding (s .width) f (element-name d q i) l
+      ap (λ (k : ℕ). take (s .width) (drop k (s .bytes))) z ∙ name-padding (s .width) f (first-name s (x .formed) q (in-elements s d q i .placed)) l
 
   pub name-at : (i q : ℕ) → i < length (instances s) → In (node (getD (instances s) i []) q) (treeElements s) → NameAt s i q
   unfolding node flatName prefixesOf

@@ -61,7 +61,7 @@ pub fn put_name(
     requires { ⌜ Naming (record { width = w; bytes = now s }) × (Prefixed (record { width = w; bytes = now s }) (now pre) (now len) × ((i < length (instances (record { width = w; bytes = now s }))) × (In (node (getD (instances (record { width = w; bytes = now s })) i []) q) (treeElements (record { width = w; bytes = now s })) × (at + flatWidth w ≤ length (now out))))) ⌝ }
     ensures { λ _. ⌜ now (out .exit) ≡ sets (now (out .entry)) at (padded (flatWidth w) (flatName (record { width = w; bytes = now (s .entry) }) (node (getD (instances (record { width = w; bytes = now (s .entry) })) i []) q))) ⌝ }
 {
-    let l = tree::wide(len[i]);
+    let l = recipe::wide(len[i]);
     put_bytes(pre, i * (4 * w + 8), l, out, at);
     put_bytes(s, q + 1, w, out, at + l);
     put_zeros(out, at + (l + w), 4 * w + 8 - l);
@@ -123,7 +123,7 @@ fn longest_run(s: &[u8], w: usize, hold: &[u16; 16384], d: usize, m: usize, n: u
     let mut best = 0;
     let mut p = d + recipe::record_length(1, w);
     while p < s.len() {
-        if tree::wide(hold[p]) != d {
+        if recipe::wide(hold[p]) != d {
             return best;
         }
         let k = s[p];
@@ -150,8 +150,8 @@ fn fewest_underscores(
     ensures { λ r. ⌜ r ≡ fewest w (namesAround (record { width = w; bytes = now (s .entry) }) m) (name (record { width = w; bytes = now (s .entry) }) m) ⌝ }
 {
     let n = name_length(s, w, m);
-    let outer = tree::wide(hold[m]);
-    let inner = tree::wide(model[m]);
+    let outer = recipe::wide(hold[m]);
+    let inner = recipe::wide(model[m]);
     let a = longest_run(s, w, hold, outer, m, n);
     let b = longest_run(s, w, hold, inner, m, n);
     larger(2, larger(a, b) + 1)
@@ -209,9 +209,9 @@ pub fn fill_prefixes(
     len[0] = 0;
     let mut i = 1;
     while i < n {
-        let m = tree::wide(inst[5 * i + 3]);
-        let u = tree::wide(inst[5 * i + 4]);
-        let l = tree::wide(len[u]);
+        let m = recipe::wide(inst[5 * i + 3]);
+        let u = recipe::wide(inst[5 * i + 4]);
+        let l = recipe::wide(len[u]);
         let r = put_row(
             s,
             w,

@@ -1,15 +1,15 @@
--- The table check passes the closed tables, with the number of their records, and no others.
+-- The table check passes the closed tables, with the number of their records, and no others; the empty table is closed.
 -- Assumes nothing.
-use Prim.Native.Nat.{ℕ}
+use Prim.Native.Nat.{ℕ, _*_}
 use mathlib.Core.Path.{_≡_, refl, ap, _∙_}
-use mathlib.Core.Option.{none, some}
+use mathlib.Core.List.{[]}
 use native.Mathlib.Omega.{arith}
-use Rattle.names.specs.declared.Refusal.{Refusal}
+use native.Mathlib.Nat.{zero-div, zero-mod}
+use borrow.Author.Tests.{le-ltb}
 use Rattle.names.specs.Judging.{judged, areRefusals, NoneApplies}
 use Rattle.names.proofs.Tests.{by-option}
 use Rattle.names.proofs.Judging.{none-judged, judged-none, refusal-number}
-use Rattle.flat_table.specs.declared.TableAnswer.{TableAnswer}
-use Rattle.flat_table.specs.Table.{Table, Closed, tableAnswer, tableRows, rowCount, verdictOf, tableVerdict, flatWidth, flatLength}
+use Rattle.flat_table.specs.Table.{Table, Closed, mostRows, tableAnswer, tableRows, rowsFrom, rowCount, rows, fault₁₄, fault₁₅, fault₁₆, fault₁₇, verdictOf, tableVerdict, flatWidth, flatLength}
 
 module _ (w : ℕ) (t : Table) where
   -- "Acceptance gives number 0, place 0 and the number of records"
@@ -30,3 +30,14 @@ module _ (w : ℕ) (t : Table) where
       (by-option (judged rows) (λ e. e)
       (λ r e. let n = ap (λ o. tableAnswer o count .number) e in absurd (omega (arith, refusal-number rows refl r e)))) in
       record { row₁₄ = h .0; row₁₅ = h .1 .0; row₁₆ = h .1 .1 .0; row₁₇ = h .1 .1 .1 .0 }
+
+-- "An empty table is closed"
+pub empty-closed : (w : ℕ) → Closed w []
+unfolding fault₁₄ fault₁₅ fault₁₆ fault₁₇ rows rowCount rowsFrom
+empty-closed w =
+    let l : ℕ = flatLength w in
+    record { row₁₄ = rw (zero-mod l, le-ltb (mostRows * l) 0 (omega arith)); row₁₅ = rw (zero-div l); row₁₆ = rw (zero-div l); row₁₇ = rw (zero-div l) }
+
+pub empty-accepted : (w : ℕ) → tableVerdict w [] ≡ record { number = 0; place = 0; count = 0 }
+unfolding rowCount
+empty-accepted w = closed-accepted w [] (empty-closed w) ∙ rw (zero-div (flatLength w))

@@ -1,25 +1,16 @@
 -- Row 6 as a loop over the records finds it: the first model that reaches itself.
 -- Assumes nothing.
-use mathlib.Core.Path.{_≡_, refl}
+use mathlib.Core.Path.{_≡_}
 use Prim.Native.Nat.{ℕ}
 use mathlib.Core.Bool.{Bool, false, _&&_}
-use mathlib.Core.List.{List, [], _∷_}
 use lib.ListN.{getD}
 use borrow.Author.Tests.{eq-eqb, ne-eqb}
-use Rattle.names.specs.Lists.{keep, first}
-use Rattle.names.proofs.Tests.{by-cases}
+use Rattle.names.specs.Lists.{first}
 use Rattle.recipe.specs.Records.{Recipe, kind, places, isModel}
 use Rattle.recipe.specs.Definitions.{definitions}
 use Rattle.recipe.specs.Reaching.{reaches}
 use Rattle.recipe.specs.Reading.{fault₆}
-
--- the first that passes a test, of those that pass another
-first-keep : {A : Type 0} (t u : A → Bool) (xs : List A) → first t (keep u xs) ≡ first (λ x. u x && t x) xs
-first-keep t u [] = refl
-first-keep t u (x ∷ xs) =
-    by-cases (u x)
-    (λ e. by-cases (t x) (λ h. rw (e, keep, first, h, first)) (λ h. rw (e, keep, first, h, first) (first-keep t u xs)))
-    (λ e. rw (e, keep, first) (first-keep t u xs))
+use Rattle.names.proofs.Lists.{first-keep}
 
 module _ (s : Recipe) where
   -- a definition that reaches itself

@@ -9,18 +9,18 @@ use mathlib.Core.Bool.{true, not, _&&_}
 use mathlib.Core.List.{List, [], _∷_}
 use lib.ListN.{length, getD, set, replicate, length-set, length-replicate}
 use lib.Seq.{getD-set-same, getD-set-other}
-use lib.Dec.{eqb, leb, ltb}
-use borrow.Author.Tests.{eqb-true, eqb-false, eq-eqb, leb-true, le-leb, ltb-true, ltb-false}
-use Rattle.names.specs.Lists.{In, keep, lastOr}
+use lib.Dec.{eqb, ltb}
+use borrow.Author.Tests.{eqb-true, eqb-false, eq-eqb, ltb-true, ltb-false}
+use Rattle.names.specs.Lists.{In}
 use Rattle.names.proofs.Tests.{by-cases, both, both-ways}
 use Rattle.names.proofs.Tables.{getD-zeros}
-use Rattle.names.proofs.Lists.{in-keep, keep-in, last-in}
-use Rattle.names.proofs.ListOrder.{Rising, keep-rising}
+use Rattle.names.proofs.Lists.{keep-in}
 use Rattle.recipe.specs.Records.{Recipe, kind, recordLength, places, isModel, isSubmodel}
-use Rattle.recipe.specs.Definitions.{main, definitions, holder, recordsOf, submodels, modelOf}
+use Rattle.recipe.specs.Definitions.{definitions, holder, recordsOf, submodels, modelOf}
 use Rattle.recipe.specs.Reaching.{Reach, direct, onward, reaches}
-use Rattle.recipe.proofs.Definitions.{in-submodels, model-in, definitions-rise, holder-in}
+use Rattle.recipe.proofs.Definitions.{in-submodels, model-in, holder-in}
 use Rattle.recipe.proofs.Reaching.{plain-reaches, reaches-plain, reach-in, reach-append}
+use Rattle.recipe.proofs.Spans.{holder-above, holder-below, definition-place}
 use Rattle.heights.specs.Search.{Ground, sum, Marks, Expanded, Expands}
 use Rattle.heights.proofs.Along.{Along, Stands, along-at, stands-before, place-in}
 
@@ -36,31 +36,6 @@ sum-low (x ∷ xs) k h = rw mul-suc (omega (arith, h 0, sum-low xs k (λ i. h (s
 
 -- ---- definitions and their records
 module _ (s : Recipe) where
-  last-most : (z p : ℕ) (qs : List ℕ) (a : ℕ) → Rising p qs → In a qs → a ≤ lastOr z qs
-  last-most z p [] a r i = absurd i
-  last-most z p (q ∷ []) a r (inl e) = omega (arith, e)
-  last-most z p (q ∷ []) a r (inr i) = absurd i
-  last-most z p (q ∷ x ∷ qs) a r (inl e) = omega (arith, e, r .1 .0, last-most q (suc q) (x ∷ qs) x (r .1) (inl refl))
-  last-most z p (q ∷ x ∷ qs) a r (inr i) = last-most q (suc q) (x ∷ qs) a (r .1) i
-
-  -- the holder lies at or before the record, and no definition lies between
-  pub holder-low : (p : ℕ) → holder s p ≤ p
-  unfolding holder main
-  holder-low p =
-      ⊎-elim (λ (h : holder s p ≡ 0). omega (arith, h))
-      (λ (h : In (holder s p) (keep (λ d. leb d p) (definitions s))). leb-true (holder s p) p (in-keep (λ d. leb d p) (definitions s) (holder s p) h .1))
-      (last-in 0 (keep (λ d. leb d p) (definitions s)))
-
-  pub holder-most : (p d : ℕ) → In d (definitions s) → d ≤ p → d ≤ holder s p
-  unfolding holder
-  holder-most p d i l =
-      last-most main 0 (keep (λ e. leb e p) (definitions s)) d (keep-rising (λ e. leb e p) 0 (definitions s) (definitions-rise s))
-      (keep-in (λ e. leb e p) (definitions s) d i (le-leb d p l))
-
-  pub definition-place : (d : ℕ) → In d (definitions s) → In d (places s) × (isModel s d ≡ true)
-  unfolding definitions
-  definition-place d i = in-keep (isModel s) (places s) d i
-
   pub place-definition : (d : ℕ) → In d (places s) → getD (s .bytes) d 0 ≡ 1 → In d (definitions s)
   unfolding definitions isModel kind
   place-definition d i k = keep-in (isModel s) (places s) d i (eq-eqb (getD (s .bytes) d 0) 1 k)
@@ -82,7 +57,7 @@ module _ (s : Recipe) where
 
   -- a model's place lies in the recipe
   pub model-place : (d m : ℕ) → In m (submodels s d) → modelOf s m < length (s .bytes)
-  model-place d m i = place-in s (modelOf s m) (definition-place (modelOf s m) (model-in s d m i) .0)
+  model-place d m i = place-in s (modelOf s m) (definition-place s (modelOf s m) (model-in s d m i) .0)
 
 -- ---- one more mark
 module _ {mark queue : List ℕ} {tail : ℕ} (r : Marks mark queue tail) where
@@ -163,7 +138,7 @@ module _ {s : Recipe} {hold model mark queue : List ℕ} {tail e : ℕ} (x : Exp
     keeps = λ t k. k;
     same = λ i l. refl;
     new = λ t k. inl k;
-    upto = λ m i l. absurd (omega (arith, holder-low s m, in-submodels s e m i .held));
+    upto = λ m i l. absurd (omega (arith, holder-below s m, in-submodels s e m i .held));
   }
 
   pub ex-place : In e (places s)
@@ -191,8 +166,8 @@ module _ {s : Recipe} {hold model mark queue : List ℕ} {tail e : ℕ} (x : Exp
             (λ b. v .upto m i (ltb-true m p b))
             (λ b.
             let o : p ≤ m = ltb-false m p b in
-            let a : holder s p ≤ holder s m = holder-most s m (holder s p) (holder-in s p (h .place)) (omega (arith, holder-low s p)) in
-            let c : e ≤ holder s p = holder-most s p e (x .definition) l in
+            let a : holder s p ≤ holder s m = holder-above s (holder s p) m (holder-in s p (h .place)) (omega (arith, holder-below s p)) in
+            let c : e ≤ holder s p = holder-above s e p (x .definition) l in
             absurd (n (held-at (x .ground) h ∙ omega (arith, in-submodels s e m i .held))));
       }
 

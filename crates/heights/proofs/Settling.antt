@@ -21,10 +21,11 @@ use Rattle.recipe.specs.Reading.{fault₆}
 use Rattle.recipe.proofs.Definitions.{in-submodels, holder-in}
 use Rattle.recipe.proofs.Reaching.{reach-append, reach-in}
 use Rattle.recipe.proofs.Rows.{no-cycle}
+use Rattle.recipe.proofs.Spans.{holder-above, holder-below, definition-place}
 use Rattle.heights.specs.Search.{Ground}
 use Rattle.heights.specs.Heights.{Heights, isSeen, isSettled, tally, Partly, Kept, Enters, Grows, Leaves, Cleared}
 use Rattle.heights.proofs.Along.{Along, Stands, along-at, stands-before, place-in}
-use Rattle.heights.proofs.Search.{holder-low, holder-most, definition-place, place-definition, model-place, kind-submodel, submodel-at, model-at, held-at}
+use Rattle.heights.proofs.Search.{place-definition, model-place, kind-submodel, submodel-at, model-at, held-at}
 
 -- ---- entries that pass a test
 tally-yes : (t : ℕ → Bool) (k : ℕ) (xs : List ℕ) → t (getD xs k 0) ≡ true → tally t (suc k) xs ≡ suc (tally t k xs)
@@ -150,7 +151,7 @@ pub record Under (s : Recipe) (d : ℕ) (height : List ℕ) (h p : ℕ) : Type 0
   pub upto : (m : ℕ) → In m (submodels s d) → m < p → (isSettled (getD height (modelOf s m) 0) ≡ true) × (getD height (modelOf s m) 0 ≤ h)
 
 pub under-start : {s : Recipe} {d : ℕ} {height : List ℕ} → Partly s height → Under s d height 0 d
-under-start {s} {d} p = record { partly = p; few = omega arith; upto = λ m i l. absurd (omega (arith, holder-low s m, in-submodels s d m i .held)) }
+under-start {s} {d} p = record { partly = p; few = omega arith; upto = λ m i l. absurd (omega (arith, holder-below s m, in-submodels s d m i .held)) }
 
 module _ {s : Recipe} {hold model : List ℕ} {d : ℕ} (g : Ground s hold model) (def : In d (definitions s)) where
   pub def-low : d < length (s .bytes)
@@ -170,8 +171,8 @@ module _ {s : Recipe} {hold model : List ℕ} {d : ℕ} (g : Ground s hold model
           (λ b. u .upto m i (ltb-true m p b))
           (λ b.
           let o : p ≤ m = ltb-false m p b in
-          let a : holder s p ≤ holder s m = holder-most s m (holder s p) (holder-in s p (st .place)) (omega (arith, holder-low s p)) in
-          let c : d ≤ holder s p = holder-most s p d def l in
+          let a : holder s p ≤ holder s m = holder-above s (holder s p) m (holder-in s p (st .place)) (omega (arith, holder-below s p)) in
+          let c : d ≤ holder s p = holder-above s d p def l in
           absurd (n (held-at g st ∙ omega (arith, in-submodels s d m i .held))));
     }
 

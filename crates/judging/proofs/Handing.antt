@@ -2,7 +2,7 @@
 -- Assumes nothing.
 use Prim.Native.Nat.{ℕ, _<_}
 use mathlib.Core.Path.{_≡_, sym, _∙_}
-use mathlib.Core.Bool.{true, false, _||_, or-comm}
+use mathlib.Core.Bool.{true, false, _||_}
 use mathlib.Core.Option.{none, Option·getD}
 use mathlib.Core.List.{List}
 use native.Mathlib.Omega.{arith}
@@ -12,16 +12,16 @@ use lib.ListN.{length, getD, replicate, length-replicate}
 use Rattle.names.specs.Lists.{In}
 use Rattle.names.specs.Names.{isBlank}
 use Rattle.names.proofs.Tests.{by-cases, not-none}
-use Rattle.recipe.specs.Records.{Recipe, places, isElement, isMark, isPort, isReplacement, isReplacedBy, isSubmodel, parentField, referenceField, submodelField, way}
-use Rattle.recipe.specs.Definitions.{main, definitions, modelOf, ownerOf, elementIn}
+use Rattle.recipe.specs.Records.{Recipe, places, isElement, isMark, isPort, isReplacement, isReplacedBy, isSubmodel, parentField, referenceField, submodelField}
+use Rattle.recipe.specs.Definitions.{main, definitions, modelOf, ownerOf, elementIn, submodelOf, namedBy}
 use Rattle.recipe.specs.Reading.{atStart, fault₁}
 use Rattle.recipe.proofs.Going.{going-start, here}
 use Rattle.recipe.proofs.Definitions.{main-in}
-use Rattle.links.specs.Links.{modelLink, ownerLink, submodelLink, parentLink, referenceLink, nextLink, submodelOf, namedBy}
+use Rattle.links.specs.Links.{modelLink, ownerLink, submodelLink, parentLink, referenceLink, nextLink}
 use Rattle.reading.specs.Tables.{Tables}
 use Rattle.tree.specs.Counts.{Countable, Counted}
 use Rattle.tree.specs.Faults.{fault₈}
-use Rattle.tree.specs.Resolve.{Aims, Linked, Lower, Measured, Names, Numbered, names, subOf}
+use Rattle.tree.specs.Resolve.{Aims, Linked, Lower, Measured, Names, Numbered}
 use Rattle.tree.specs.Walk.{Ground}
 use Rattle.marks.specs.Cells.{Cells, Ready}
 use Rattle.marks.specs.Elements.{Elements}
@@ -76,24 +76,17 @@ module _ (s : Recipe) where
     unfolding modelLink
     models-are m i b = t .models m i ∙ rw b
 
-    subs-are : (r : ℕ) → In r (places s) → isMark s r || isPort s r ≡ true → isBlank (submodelField s r) ≡ false → getD sub r 0 ≡ subOf s r
-    unfolding submodelLink submodelOf subOf
-    subs-are r i b f = t .submodels-are r i ∙ rw (or-comm (isPort s r) (isMark s r) ∙ b, f)
+    subs-are : (r : ℕ) → In r (places s) → isMark s r || isPort s r ≡ true → isBlank (submodelField s r) ≡ false → getD sub r 0 ≡ submodelOf s r
+    unfolding submodelLink
+    subs-are r i b f = t .submodels-are r i ∙ rw (b, f)
 
     blanks-are : (r : ℕ) → In r (places s) → isMark s r || isPort s r ≡ true → isBlank (submodelField s r) ≡ true → getD sub r 0 ≡ 0
     unfolding submodelLink
-    blanks-are r i b f = t .submodels-are r i ∙ rw (or-comm (isPort s r) (isMark s r) ∙ b, f)
+    blanks-are r i b f = t .submodels-are r i ∙ rw (b, f)
 
-    -- one and the same look-up, as links and as the tree have it
-    same-names : (r : ℕ) → namedBy s r ≡ names s r
-    unfolding namedBy names submodelOf subOf
-    same-names r =
-        by-cases (isBlank (submodelField s r)) (λ e. rw (e, names))
-        (λ e. by-cases (eqb (way s r) 0) (λ f. rw (e, names, f)) (λ f. rw (e, names, f)))
-
-    nexts-are : (r : ℕ) → In r (places s) → isMark s r || isPort s r ≡ true → getD nxt r 0 ≡ Option·getD (names s r) 0
+    nexts-are : (r : ℕ) → In r (places s) → isMark s r || isPort s r ≡ true → getD nxt r 0 ≡ Option·getD (namedBy s r) 0
     unfolding nextLink
-    nexts-are r i b = t .nexts r i ∙ rw (or-comm (isPort s r) (isMark s r) ∙ b, same-names r)
+    nexts-are r i b = t .nexts r i ∙ rw b
 
     module _ (count ord : List ℕ) (k : Counted s count ord) where
       -- what planting the tree asks

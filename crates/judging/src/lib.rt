@@ -1,16 +1,18 @@
 // Judging the tree of a recipe: the refusals 7 to 12 in order, and where none applies what the writer needs.
-// For the floor above: judge_tree. It takes the name width w, and the tables that reading hands up.
+// For the floors above: judge_tree, which takes the name width w and the tables that reading hands up. There is no public call.
 ghost use mathlib.Core.Path.{_≡_};
+ghost use mathlib.Core.List.{_++_};
 ghost use lib.ListN.{length, replicate};
+ghost use Rattle.names.specs.Judging.{refusalAt, judged, handed};
 ghost use Rattle.names.specs.Scans.{foundOf};
 ghost use Rattle.recipe.specs.Records.{Recipe};
-ghost use Rattle.reading.specs.Answer.{answerOf};
 ghost use Rattle.reading.specs.Tables.{Tables};
-ghost use Rattle.marks.specs.Faults.{fault₁₂};
-ghost use Rattle.judging.specs.Answer.{judgementOf, judgedMarks, judgedNaming, judgedTree};
+ghost use Rattle.tree.specs.Faults.{treeRows, targetRows};
+ghost use Rattle.marks.specs.Faults.{fault₁₂, markRows, referenceRows};
+ghost use Rattle.judging.specs.Answer.{judgementOf};
 ghost use Rattle.judging.specs.Handed.{Blank, Standing, Aimed, MarksPass, Referring, Listed, NamingPasses, Composed};
 use names::Found;
-use reading::ReadAnswer;
+use names::Refusal;
 
 // Number and place of the first row that applies, or 0 and 0; the number of instances and of elements of the tree.
 pub struct Judgement {
@@ -44,20 +46,20 @@ fn judge_marks(
     aims: &[u16; 16384],
     par: &[u16; 16384],
     cells: &mut [u8; 12288],
-) -> ReadAnswer
+) -> Refusal
     requires { ⌜ Aimed (record { width = w; bytes = now s }) (now hold) (now rel) (now own) (now ord) (now inst) n (now aims) (now par) × (now cells ≡ replicate 12288 0) ⌝ }
-    ensures { λ r. ⌜ (r ≡ judgedMarks (record { width = w; bytes = now (s .entry) }) (answerOf 0 0)) × (r .number ≡ 0 → MarksPass (record { width = w; bytes = now (s .entry) }) (now (cells .exit)) (now (ord .entry)) (now (par .entry))) ⌝ }
+    ensures { λ r. ⌜ (r ≡ handed (judged (markRows (record { width = w; bytes = now (s .entry) })))) × (r .number ≡ 0 → MarksPass (record { width = w; bytes = now (s .entry) }) (now (cells .exit)) (now (ord .entry)) (now (par .entry))) ⌝ }
 {
     if let Found::At(p) = marks::first_conflict(s, w, hold, rel, own, ord, inst, n, cells) {
-        return reading::answer(9, p);
+        return names::refuse(9, p);
     }
     if let Found::At(p) = tree::first_misclassed(s, w, own, aims) {
-        return reading::answer(10, p);
+        return names::refuse(10, p);
     }
     if let Found::At(p) = marks::first_lost(s, w, hold, rel, own, ord, inst, n, aims, par, cells) {
-        return reading::answer(11, p);
+        return names::refuse(11, p);
     }
-    reading::answer(0, 0)
+    names::refuse(0, 0)
 }
 
 // Row 12; the chain's steps, and the elements of the tree by their numbers.
@@ -104,15 +106,15 @@ fn judge_naming(
     go: &mut [u16; 1024],
     place: &mut [u16; 1024],
     within: &mut [u16; 1024],
-) -> ReadAnswer
+) -> Refusal
     requires { ⌜ Standing (record { width = w; bytes = now s }) (now hold) (now height) (now own) (now sub) (now par) (now refs) (now nxt) (now ord) (now inst) (now off) n × Blank (now cells) (now go) (now place) (now within) ⌝ }
-    ensures { λ r. ⌜ (r ≡ judgedNaming (record { width = w; bytes = now (s .entry) })) × (r .number ≡ 0 → NamingPasses (record { width = w; bytes = now (s .entry) }) (now (par .entry)) (now (ord .entry)) (now (cells .exit)) (now (go .exit)) (now (place .exit)) (now (within .exit))) ⌝ }
+    ensures { λ r. ⌜ (r ≡ handed (judged (targetRows (record { width = w; bytes = now (s .entry) }) ++ (markRows (record { width = w; bytes = now (s .entry) }) ++ referenceRows (record { width = w; bytes = now (s .entry) }))))) × (r .number ≡ 0 → NamingPasses (record { width = w; bytes = now (s .entry) }) (now (par .entry)) (now (ord .entry)) (now (cells .exit)) (now (go .exit)) (now (place .exit)) (now (within .exit))) ⌝ }
 {
     let mut rel = [0u16; 16384];
     let mut aims = [0u16; 16384];
     let f = tree::first_untargeted(s, w, sub, nxt, ord, off, hold, height, &mut rel, &mut aims);
     if let Found::At(p) = f {
-        return reading::answer(8, p);
+        return names::refuse(8, p);
     }
     let a = judge_marks(s, w, hold, &rel, own, ord, inst, n, &aims, par, cells);
     if a.number != 0 {
@@ -134,9 +136,9 @@ fn judge_naming(
         place,
         within,
     ) {
-        return reading::answer(12, p);
+        return names::refuse(12, p);
     }
-    reading::answer(0, 0)
+    names::refuse(0, 0)
 }
 
 // Rows 7 to 12 of a recipe that rows 1 to 6 let pass; where none applies, the tables for the writer.
@@ -159,7 +161,7 @@ pub fn judge_tree(
     go: &mut [u16; 1024],
 ) -> Judgement
     requires { ⌜ Tables (record { width = w; bytes = now s }) (now hold) (now model) (now height) (now own) (now sub) (now par) (now refs) (now nxt) × ((length (now ord) ≡ 16384) × ((length (now inst) ≡ 320) × Blank (now cells) (now go) (now place) (now within))) ⌝ }
-    ensures { λ r. ⌜ (answerOf (r .number) (r .place) ≡ judgedTree (record { width = w; bytes = now (s .entry) })) × (r .number ≡ 0 → Composed (record { width = w; bytes = now (s .entry) }) (now (hold .entry)) (now (model .entry)) (now (height .entry)) (now (own .entry)) (now (sub .entry)) (now (par .entry)) (now (refs .entry)) (now (nxt .entry)) (now (ord .exit)) (now (inst .exit)) (now (place .exit)) (now (within .exit)) (now (cells .exit)) (now (go .exit)) (r .insts) (r .elems)) ⌝ }
+    ensures { λ r. ⌜ (refusalAt (r .number) (r .place) ≡ handed (judged (treeRows (record { width = w; bytes = now (s .entry) }) ++ (targetRows (record { width = w; bytes = now (s .entry) }) ++ (markRows (record { width = w; bytes = now (s .entry) }) ++ referenceRows (record { width = w; bytes = now (s .entry) })))))) × (r .number ≡ 0 → Composed (record { width = w; bytes = now (s .entry) }) (now (hold .entry)) (now (model .entry)) (now (height .entry)) (now (own .entry)) (now (sub .entry)) (now (par .entry)) (now (refs .entry)) (now (nxt .entry)) (now (ord .exit)) (now (inst .exit)) (now (place .exit)) (now (within .exit)) (now (cells .exit)) (now (go .exit)) (r .insts) (r .elems)) ⌝ }
 {
     let mut count = [0u16; 16384];
     tree::count_elements(s, w, hold, &mut count, ord);

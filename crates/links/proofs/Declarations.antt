@@ -1,6 +1,6 @@
 -- Row 5, record by record, as the code finds it: by what each field leads to.
 -- Assumes nothing.
-use mathlib.Core.Path.{_≡_, sym, ap, _∙_}
+use mathlib.Core.Path.{_≡_, refl, sym, ap, _∙_}
 use mathlib.Core.Logic.{_⊎_, inl, inr}
 use mathlib.Core.Bool.{Bool, true, false, not, _&&_, _||_}
 use mathlib.Core.Option.{Option, none, some, Option·map}
@@ -8,26 +8,29 @@ use mathlib.Core.List.{List}
 use Prim.Native.Nat.{ℕ, _+_, _*_, _≤_, _<_}
 use native.Mathlib.Omega.{arith}
 use lib.ListN.{length, getD}
-use lib.Dec.{eqb, ltb}
+use lib.Dec.{ltb}
 use borrow.Author.Tests.{eqb-true, eq-eqb, ne-eqb}
 use Rattle.names.specs.Lists.{isSome}
 use Rattle.names.specs.Names.{text, isBlank, fieldAt}
 use Rattle.names.specs.Scans.{foundOf, scan}
 use Rattle.names.specs.declared.Found.the-variants.{At, Nothing}
-use Rattle.names.proofs.Tests.{by-cases, apart}
+use Rattle.names.proofs.Tests.{or-left, or-right}
 use Rattle.names.proofs.Scans.{found-some, found-nothing, scan-below}
 use Rattle.flat_table.specs.Classes.{parentAllowed}
-use Rattle.recipe.specs.Records.{Recipe, kind, places, isModel, isElement, isPort, isSubmodel, isDeletion, byte, class, field, firstField, parentField, submodelField, submodelOffset, modelField, targetField, way}
+use Rattle.recipe.specs.Records.{Recipe, partOffset, submodelPart, portKind, ownedKind, markKind, kind, isReadable, places, isModel, isElement, isPort, isSubmodel, isDeletion, isReplacement, isReplacedBy, isMark, byte, class, field, firstField, parentField, submodelField, submodelOffset, modelField, targetField, way}
 use Rattle.recipe.specs.Definitions.{holder, definitionNamed, elementIn}
 use Rattle.recipe.specs.Reading.{isParent, isParentFault, isOwnPortFault, isSubmodelFieldFault, isOwnerFault, isModelFault, isPortFault, isUndeclared, fault₅}
+use Rattle.recipe.proofs.Bodies.{by-mark, mark-kind, owned-kind}
+use Rattle.recipe.proofs.Fields.{at-2, at-3, at-4}
 use Rattle.recipe.proofs.Reading.{readable}
 use Rattle.recipe.proofs.Definitions.{element-named, in-elements}
+use Rattle.recipe.proofs.Spans.{holder-below}
 use Rattle.links.specs.Entries.{Clear, ByPlace, declaredNamed, NameField}
-use Rattle.links.specs.Links.{Named, Recorded, offsetOf}
-use Rattle.links.proofs.Places.{first-numbered, place-room, known, known-kind}
-use Rattle.links.proofs.Entering.{holder-below, first-field, listed-in}
+use Rattle.links.specs.Links.{Named, Recorded}
+use Rattle.links.proofs.Places.{first-numbered, place-room}
+use Rattle.links.proofs.Entering.{first-field, listed-in}
 use Rattle.links.proofs.Lookups.{element-look, submodel-look}
-use Rattle.links.proofs.Fields.{room-three, room-submodel, room-target, first-reads, parent-reads, model-reads, port-submodel-reads, mark-submodel-reads, target-reads}
+use Rattle.links.proofs.Fields.{room-target, first-reads, parent-reads, model-reads, port-submodel-reads, mark-submodel-reads, target-reads}
 
 -- ---- an answer of a look-up, as a test
 pub not-there : (o : Option ℕ) → Nothing ≡ foundOf o → true ≡ not (isSome o)
@@ -50,10 +53,13 @@ module _ {s : Recipe} {at fields keys index : List ℕ} {n p d : ℕ} (x : Recor
   pub room : p + (s .width + 1) ≤ length (s .bytes)
   room = place-room s p (x .placed)
 
+  read : isReadable s p ≡ true
+  read = readable s p (x .placed)
+
   pub room-filled : (getD (s .bytes) p 0 ≡ 2) ⊎ (getD (s .bytes) p 0 ≡ 3) → p + (2 + 3 * s .width) ≤ length (s .bytes)
   unfolding kind
-  room-filled (inl k) = room-three s p (x .placed) (λ q. omega arith) (λ q. omega arith) (λ q. omega arith)
-  room-filled (inr k) = room-three s p (x .placed) (λ q. omega arith) (λ q. omega arith) (λ q. omega arith)
+  room-filled (inl k) = at-2 s p read k .room
+  room-filled (inr k) = at-3 s p read k .room
 
   pub first-sought : {f : List ℕ} → f ≡ fieldAt (s .width) (s .bytes) (p + 1) → NameField (s .width) f
   first-sought {f} e = rw (e ∙ first-field s p) (first-reads s p (x .placed) (clear .formed))
@@ -94,14 +100,13 @@ module _ {s : Recipe} {at fields keys index : List ℕ} {n p d : ℕ} (x : Recor
   found-room f {q} e =
       let h = element-named s d (text f) q (sym (element-look s d (text f)) ∙ found-some e) in
       let r = in-elements s d q (h .0) in
-      let k : kind s q ≡ 2 = eqb-true (kind s q) 2 (r .passes) in
-      room-three s q (r .placed) (λ u. omega arith) (λ u. omega arith) (λ u. omega arith)
+      at-2 s q (readable s q (r .placed)) (eqb-true (kind s q) 2 (r .passes)) .room
 
   -- ---- a port
   module _ (k : getD (s .bytes) p 0 ≡ 3) where
     port-offset : submodelOffset s p ≡ s .width
-    unfolding submodelOffset isDeletion kind
-    port-offset = rw (k, submodelOffset)
+    unfolding submodelOffset kind
+    port-offset = rw k
 
     pub own-way : getD (s .bytes) (p + 1 + (s .width + s .width)) 0 ≡ 1 → true ≡ isOwnPortFault s p
     unfolding isOwnPortFault way byte
@@ -113,8 +118,8 @@ module _ {s : Recipe} {at fields keys index : List ℕ} {n p d : ℕ} (x : Recor
       target-is = ef ∙ rw port-offset
 
       pub target-sought : NameField (s .width) f
-      unfolding kind
-      target-sought = rw target-is (target-reads s p (x .placed) (clear .formed) (inl k))
+      unfolding isPort kind
+      target-sought = rw target-is (target-reads s p (x .placed) (clear .formed) (or-right (isMark s p) (isPort s p) (rw k)))
 
       pub own-target : {r : Bool} → (getD (s .bytes) (p + 1 + (s .width + s .width)) 0 ≡ 1 → ⊥) → r ≡ not (isSome (declaredNamed s 2 d (text f))) → r ≡ isOwnPortFault s p
       unfolding isOwnPortFault way byte
@@ -146,7 +151,7 @@ module _ {s : Recipe} {at fields keys index : List ℕ} {n p d : ℕ} (x : Recor
   module _ (k : getD (s .bytes) p 0 ≡ 4) where
     pub room-model : p + (1 + 2 * s .width) ≤ length (s .bytes)
     unfolding kind
-    room-model = room-submodel s p (x .placed) k
+    room-model = at-4 s p read k .room
 
     module _ {f : List ℕ} (ef : f ≡ fieldAt (s .width) (s .bytes) (p + 1 + s .width)) where
       model-is : f ≡ modelField s p
@@ -162,14 +167,17 @@ module _ {s : Recipe} {at fields keys index : List ℕ} {n p d : ℕ} (x : Recor
       model-fault e = e ∙ rw model-is
 
   -- ---- a mark
-  module _ (k : 5 ≤ getD (s .bytes) p 0) {o : ℕ} (eo : o ≡ offsetOf (getD (s .bytes) p 0) (s .width)) where
+  module _ (k : markKind (getD (s .bytes) p 0) ≡ true) {o : ℕ} (eo : o ≡ partOffset (s .width) (getD (s .bytes) p 0) (submodelPart (getD (s .bytes) p 0))) where
+    marks : isMark s p ≡ true
+    unfolding kind
+    marks = mark-kind s p ∙ k
+
     mark-offset : o ≡ submodelOffset s p
-    unfolding submodelOffset isDeletion kind offsetOf
-    mark-offset = eo ∙ by-cases (eqb (getD (s .bytes) p 0) 5) (λ e. rw (e, submodelOffset)) (λ e. rw (e, submodelOffset))
+    unfolding submodelOffset kind
+    mark-offset = eo
 
     pub room-mark : p + 1 + o + s .width ≤ length (s .bytes)
-    unfolding kind
-    room-mark = omega (arith, mark-offset, room-target s p (x .placed) (inr k))
+    room-mark = omega (arith, mark-offset, room-target s p (x .placed) (or-left (isMark s p) (isPort s p) marks))
 
     module _ {f : List ℕ} (ef : f ≡ fieldAt (s .width) (s .bytes) (p + 1 + o)) where
       mark-is : f ≡ submodelField s p
@@ -177,8 +185,7 @@ module _ {s : Recipe} {at fields keys index : List ℕ} {n p d : ℕ} (x : Recor
       mark-is = ef ∙ rw mark-offset
 
       pub mark-sought : NameField (s .width) f
-      unfolding kind
-      mark-sought = rw mark-is (mark-submodel-reads s p (x .placed) (clear .formed) k)
+      mark-sought = rw mark-is (mark-submodel-reads s p (x .placed) (clear .formed) marks)
 
       module _ {r : Bool} (er : r ≡ not (isSome (declaredNamed s 4 d (text f)))) where
         submodel-fault : isSubmodelFieldFault s p ≡ r
@@ -188,15 +195,19 @@ module _ {s : Recipe} {at fields keys index : List ℕ} {n p d : ℕ} (x : Recor
         pub mark-submodel : r ≡ true → true ≡ isSubmodelFieldFault s p || isOwnerFault s p
         mark-submodel h = rw (submodel-fault ∙ h)
 
-        pub mark-deletion : r ≡ false → getD (s .bytes) p 0 ≡ 5 → false ≡ isSubmodelFieldFault s p || isOwnerFault s p
-        unfolding isOwnerFault isDeletion kind
-        mark-deletion h e = rw (submodel-fault ∙ h, e)
+        owned : isReplacement s p || isReplacedBy s p ≡ ownedKind (getD (s .bytes) p 0)
+        unfolding kind
+        owned = owned-kind s p
 
-        pub mark-owner : {g : List ℕ} {z : Bool} → r ≡ false → (getD (s .bytes) p 0 ≡ 5 → ⊥) → g ≡ fieldAt (s .width) (s .bytes) (p + 1)
+        pub mark-deletion : r ≡ false → ownedKind (getD (s .bytes) p 0) ≡ false → false ≡ isSubmodelFieldFault s p || isOwnerFault s p
+        unfolding isOwnerFault
+        mark-deletion h e = rw (submodel-fault ∙ h, owned ∙ e)
+
+        pub mark-owner : {g : List ℕ} {z : Bool} → r ≡ false → ownedKind (getD (s .bytes) p 0) ≡ true → g ≡ fieldAt (s .width) (s .bytes) (p + 1)
             → z ≡ not (isSome (declaredNamed s 2 d (text g))) → z ≡ isSubmodelFieldFault s p || isOwnerFault s p
-        unfolding isOwnerFault isDeletion kind
+        unfolding isOwnerFault
         mark-owner {g} {z} h m eg ez =
-            rw (submodel-fault ∙ h, ne-eqb (getD (s .bytes) p 0) 5 m)
+            rw (submodel-fault ∙ h, owned ∙ m)
             (ez ∙ rw (eg ∙ first-field s p, x .held, element-look s (holder s p) (text (firstField s p))))
 
 -- ---- by the kind
@@ -217,19 +228,15 @@ module _ (s : Recipe) (p : ℕ) where
   unfolding isUndeclared isModel isElement isPort isSubmodel kind
   undeclared-submodel k e = rw k e
 
-  pub undeclared-mark : {r : Bool} → 5 ≤ getD (s .bytes) p 0 → r ≡ isSubmodelFieldFault s p || isOwnerFault s p → r ≡ isUndeclared s p
-  unfolding isUndeclared isModel isElement isPort isSubmodel kind
-  undeclared-mark h e =
-      rw (ne-eqb (getD (s .bytes) p 0) 1 (λ q. omega arith), ne-eqb (getD (s .bytes) p 0) 2 (λ q. omega arith), ne-eqb (getD (s .bytes) p 0) 3 (λ q. omega arith), ne-eqb (getD (s .bytes) p 0) 4 (λ q. omega arith)) e
+  pub undeclared-mark : {r : Bool} → markKind (getD (s .bytes) p 0) ≡ true → r ≡ isSubmodelFieldFault s p || isOwnerFault s p → r ≡ isUndeclared s p
+  unfolding isUndeclared isModel isElement isPort isSubmodel isMark isDeletion isReplacement isReplacedBy kind
+  undeclared-mark {r} m e =
+      by-mark (λ k. getD (s .bytes) p 0 ≡ k → r ≡ isUndeclared s p) (λ k. rw k e) (λ k. rw k e) (λ k. rw k e) (getD (s .bytes) p 0) m refl
 
--- what is left of the kinds
-pub mark-kind : {k : ℕ} → 1 ≤ k → (k ≡ 1 → ⊥) → (k ≡ 2 → ⊥) → (k ≡ 3 → ⊥) → (k ≡ 4 → ⊥) → 5 ≤ k
-mark-kind {k} h a b c d =
-    apart (apart (apart (apart h (λ q. a (sym q))) (λ q. b (sym q))) (λ q. c (sym q))) (λ q. d (sym q))
-
-pub read-kind : {s : Recipe} {at fields keys index : List ℕ} {n p d : ℕ} → Recorded s at fields keys index n p d → 1 ≤ getD (s .bytes) p 0
-unfolding kind
-read-kind {s} {p = p} x = known-kind (kind s p) (known s p (readable s p (x .placed))) .0
+  pub undeclared-other : (getD (s .bytes) p 0 ≡ 1 → ⊥) → (getD (s .bytes) p 0 ≡ 2 → ⊥) → portKind (getD (s .bytes) p 0) ≡ false → (getD (s .bytes) p 0 ≡ 4 → ⊥)
+      → markKind (getD (s .bytes) p 0) ≡ false → false ≡ isUndeclared s p
+  unfolding isUndeclared isModel isElement isPort isSubmodel isMark isDeletion isReplacement isReplacedBy kind
+  undeclared-other a b c d m = rw (ne-eqb (getD (s .bytes) p 0) 1 a, ne-eqb (getD (s .bytes) p 0) 2 b, c, ne-eqb (getD (s .bytes) p 0) 4 d, m)
 
 -- ---- the loop
 abbrev pub undeclaredAt : Recipe → ℕ → Bool

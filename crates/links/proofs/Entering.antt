@@ -8,13 +8,11 @@ use native.Mathlib.Omega.{arith}
 use native.Mathlib.Nat.{suc-mul, mul-le-mul-right, mul-le-mul-left}
 use lib.ListN.{length, getD, take, drop, set, length-set, length-drop}
 use lib.Seq.{getD-set-same, getD-set-other, getD-take, getD-drop, ext-getD, length-take-le}
-use borrow.Author.Tests.{eq-eqb, ne-eqb, leb-true}
-use lib.Dec.{leb}
-use mathlib.Core.Logic.{⊎-elim}
-use Rattle.names.specs.Lists.{In, keep, lastOr}
+use borrow.Author.Tests.{eq-eqb, ne-eqb}
+use Rattle.names.specs.Lists.{In}
 use Rattle.names.specs.Names.{fieldAt}
 use Rattle.names.proofs.Tests.{three, not-both}
-use Rattle.names.proofs.Lists.{in-keep, keep-in, last-in}
+use Rattle.names.proofs.Lists.{in-keep, keep-in, getD-in, in-getD}
 use Rattle.name_index.specs.Index.{nameOf}
 use Rattle.recipe.specs.Records.{Recipe, kind, isModel, recordLength, next, places, field, firstField}
 use Rattle.recipe.specs.Definitions.{main, definitions, holder}
@@ -23,7 +21,7 @@ use Rattle.recipe.proofs.Going.{Going, Here, going-start, going-more, here, non
 use Rattle.recipe.proofs.Definitions.{main-in, holder-is}
 use Rattle.links.specs.Entries.{tagOf, tagAt, keyOf, keyAt, Clear, Listed, Copied}
 use Rattle.links.specs.Steps.{Put}
-use Rattle.links.proofs.Places.{drop-next, drop-over, in-at, at-in, rest, rest-more, rest-start, next-least, place-room, numbered-less, Filling, filling-one}
+use Rattle.links.proofs.Places.{drop-next, drop-over, rest, rest-more, rest-start, next-least, place-room, numbered-less, Filling, filling-one}
 
 -- ---- the list of the places
 pub record Listing (s : Recipe) (at₀ at : List ℕ) (i p : ℕ) : Type 0 where
@@ -106,7 +104,7 @@ step-next s p e = ap (λ (k : ℕ). p + k) e
 -- ---- a record by number
 module _ {s : Recipe} {at : List ℕ} {n : ℕ} (c : Clear s) (l : Listed s at n) where
   pub listed-in : {i : ℕ} → i < n → In (getD at i 0) (places s)
-  listed-in {i} h = rw (l .listed i h) (at-in (places s) i (omega (arith, l .count)))
+  listed-in {i} h = rw (l .listed i h) (getD-in (places s) i 0 (omega (arith, l .count)))
 
   pub listed-fits : {i : ℕ} → i < n → getD at i 0 + (s .width + 1) ≤ length (s .bytes)
   listed-fits {i} h = place-room s (getD at i 0) (listed-in h)
@@ -132,7 +130,7 @@ holding-start s hold = record {
 
 module _ {s : Recipe} {hold₀ hold : List ℕ} {d i : ℕ} (g : Holding s hold₀ hold d i) (p : ℕ) (h : i < length (places s)) (e : p ≡ getD (places s) i 0) (room : p < length hold) where
   placed : In p (places s)
-  placed = rw e (at-in (places s) i h)
+  placed = rw e (getD-in (places s) i 0 h)
 
   pub holding-model : getD (s .bytes) p 0 ≡ 1 → Holding s hold₀ (set hold p p) p (i + 1)
   unfolding isModel definitions kind
@@ -153,12 +151,12 @@ module _ {s : Recipe} {hold₀ hold : List ℕ} {d i : ℕ} (g : Holding s hold�
       let held : holder s p ≡ d = holder-is s p d (g .start (main-in s p placed)) (omega (arith, g .before i (omega arith) h))
       (λ x y u v.
       let r = in-keep (isModel s) (places s) x y in
-      let w = in-at (places s) x (r .0) in
-      let o : isModel s (getD (places s) (w .0) 0) ≡ true = rw (w .2) (r .1) in
+      let w = in-getD (places s) x 0 (r .0) in
+      let o : isModel s (getD (places s) (w .0) 0) ≡ true = rw (w .1 .1) at (r .1) in
       three (w .0) i
-      (λ z. omega (arith, g .last (w .0) z o, w .2))
+      (λ z. omega (arith, g .last (w .0) z o, w .1 .1))
       (λ z. let q : getD (places s) (w .0) 0 ≡ p = ap (λ (x : ℕ). getD (places s) x 0) z ∙ sym e in not-both (rw q at o) m)
-      (λ z. omega (arith, numbered-less s i (w .0) z (w .1), w .2))) in
+      (λ z. omega (arith, numbered-less s i (w .0) z (w .1 .0), w .1 .1))) in
       record {
         fill = filling-one s p d (g .fill) h e room (sym held);
         start = g .start;
@@ -241,14 +239,6 @@ copying-end {s} {at} {out₀} {out} {i} {n} c l r h m j u =
 pub first-field : (s : Recipe) (p : ℕ) → fieldAt (s .width) (s .bytes) (p + 1) ≡ firstField s p
 unfolding firstField field
 first-field s p = let e : p + 1 ≡ p + 1 + 0 = omega arith in ap (fieldAt (s .width) (s .bytes)) e
-
--- a definition begins no later than its records
-pub holder-below : (s : Recipe) (p : ℕ) → holder s p ≤ p
-unfolding holder main
-holder-below s p =
-    ⊎-elim (λ (q : lastOr 0 (keep (λ d. leb d p) (definitions s)) ≡ 0). omega arith)
-    (λ (j : In (lastOr 0 (keep (λ d. leb d p) (definitions s))) (keep (λ d. leb d p) (definitions s))). leb-true _ p (in-keep (λ d. leb d p) (definitions s) _ j .1))
-    (last-in 0 (keep (λ d. leb d p) (definitions s)))
 
 pub key-is : (s : Recipe) (i : ℕ) {p d t k : ℕ} {f : List ℕ} → p ≡ getD (places s) i 0 → d ≡ holder s p → t ≡ tagOf (getD (s .bytes) p 0) p d
     → f ≡ fieldAt (s .width) (s .bytes) (p + 1) → k ≡ keyOf t f → k ≡ keyAt s i

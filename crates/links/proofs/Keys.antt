@@ -2,33 +2,24 @@
 -- Assumes nothing.
 use mathlib.Core.Path.{_≡_, refl, sym, ap, _∙_}
 use mathlib.Core.Bool.{Bool, true, false, cond, _&&_, _||_}
-use mathlib.Core.List.{List, _∷_, _++_}
-use Prim.Native.Nat.{ℕ, zero, suc, _+_, _*_, _%_, _≤_, _<_}
+use mathlib.Core.List.{List, _∷_}
+use Prim.Native.Nat.{ℕ, zero, suc, _+_, _*_, _%_, _<_}
 use native.Mathlib.Omega.{arith}
-use lib.ListN.{length, drop, replicate, length-drop, take-append-drop}
+use lib.ListN.{length}
 use lib.Dec.{eqb}
 use borrow.Author.Tests.{eqb-true, eqb-false, eq-eqb, ne-eqb}
-use Rattle.names.specs.Lists.{In, first, same}
-use Rattle.names.specs.Names.{text, nonZero, isBlank, isName, areNameCharacters}
-use Rattle.names.proofs.Names.{blank-zeros}
+use Rattle.names.specs.Lists.{In, first, same, padded}
+use Rattle.names.specs.Names.{text, isName}
+use Rattle.names.proofs.Names.{name-padding}
 use Rattle.names.proofs.Tests.{by-cases, both-ways, both, and-left, and-right}
-use Rattle.names.proofs.Lists.{same-true, eq-same, take-while}
+use Rattle.names.proofs.Lists.{same-true, eq-same}
 use Rattle.name_index.specs.Hash.{hashOf}
-use Rattle.recipe.specs.Records.{Recipe, kind, places, isModel, isElement, isPort, isSubmodel, isReplacedBy, field, name}
+use Rattle.recipe.specs.Records.{Recipe, isKnown, kind, places, isModel, isElement, isPort, isSubmodel, isReplacedBy, field, name}
 use Rattle.recipe.specs.Definitions.{holder, isDeclared}
 use Rattle.recipe.specs.Reading.{shareNames}
-use Rattle.recipe.proofs.Reading.{readable}
+use Rattle.recipe.proofs.Reading.{known, readable}
+use Rattle.recipe.proofs.Bodies.{by-kind}
 use Rattle.links.specs.Entries.{tagOf, tagAt, keyOf}
-use Rattle.links.proofs.Places.{known, known-kind}
-
--- ---- a name field, by its text
--- a name and zeros
-name-field : (f : List ℕ) → isName f ≡ true → f ≡ text f ++ replicate (length (drop (length (text f)) f)) 0
-unfolding isName text
-name-field f e =
-    let t = text f in
-    let b = blank-zeros (drop (length t) f) (and-right (areNameCharacters t) (isBlank (drop (length t) f)) e) in
-    sym (take-append-drop (length t) f) ∙ (ap (λ (l : List ℕ). l ++ drop (length t) f) (take-while nonZero f) ∙ ap (λ (l : List ℕ). t ++ l) b)
 
 -- two name fields of one width are the same where their names are
 pub same-fields : (f g : List ℕ) → isName f ≡ true → isName g ≡ true → length f ≡ length g → same (text f) (text g) ≡ same f g
@@ -36,9 +27,7 @@ same-fields f g a b l =
     both-ways
     (λ e.
     let t : text f ≡ text g = same-true (text f) (text g) e in
-    let n : length (drop (length (text f)) f) ≡ length (drop (length (text g)) g) =
-    length-drop (length (text f)) f ∙ (rw (l, t) (sym (length-drop (length (text g)) g))) in
-    eq-same (name-field f a ∙ (rw (n, t) (sym (name-field g b)))))
+    eq-same (name-padding (length g) f a l ∙ (ap (padded (length g)) t ∙ sym (name-padding (length g) g b refl))))
     (λ e. eq-same (ap text (same-true f g e)))
 
 -- ---- the key
@@ -72,17 +61,17 @@ record Shape (k p d a : ℕ) : Type 0 where
   port : eqb k 3 ≡ eqb a 2
   replaced : eqb k 7 ≡ eqb a 3
 
-shape : (k p d : ℕ) → 1 ≤ k → k ≤ 7 → (a : ℕ) × Shape k p d a
+shape : (p d k : ℕ) → isKnown k ≡ true → (a : ℕ) × Shape k p d a
 unfolding tagOf home
-shape zero p d h l = absurd (omega arith)
-shape (suc zero) p d h l = (0, record { low = omega arith; tag = refl; model = refl; declared = refl; port = refl; replaced = refl })
-shape (suc (suc zero)) p d h l = (1, record { low = omega arith; tag = refl; model = refl; declared = refl; port = refl; replaced = refl })
-shape (suc (suc (suc zero))) p d h l = (2, record { low = omega arith; tag = refl; model = refl; declared = refl; port = refl; replaced = refl })
-shape (suc (suc (suc (suc zero)))) p d h l = (1, record { low = omega arith; tag = refl; model = refl; declared = refl; port = refl; replaced = refl })
-shape (suc (suc (suc (suc (suc zero))))) p d h l = (4, record { low = omega arith; tag = refl; model = refl; declared = refl; port = refl; replaced = refl })
-shape (suc (suc (suc (suc (suc (suc zero)))))) p d h l = (4, record { low = omega arith; tag = refl; model = refl; declared = refl; port = refl; replaced = refl })
-shape (suc (suc (suc (suc (suc (suc (suc zero))))))) p d h l = (3, record { low = omega arith; tag = refl; model = refl; declared = refl; port = refl; replaced = refl })
-shape (suc (suc (suc (suc (suc (suc (suc (suc k)))))))) p d h l = absurd (omega arith)
+shape p d =
+    by-kind (λ k. (a : ℕ) × Shape k p d a)
+    (0, record { low = omega arith; tag = refl; model = refl; declared = refl; port = refl; replaced = refl })
+    (1, record { low = omega arith; tag = refl; model = refl; declared = refl; port = refl; replaced = refl })
+    (2, record { low = omega arith; tag = refl; model = refl; declared = refl; port = refl; replaced = refl })
+    (1, record { low = omega arith; tag = refl; model = refl; declared = refl; port = refl; replaced = refl })
+    (4, record { low = omega arith; tag = refl; model = refl; declared = refl; port = refl; replaced = refl })
+    (4, record { low = omega arith; tag = refl; model = refl; declared = refl; port = refl; replaced = refl })
+    (3, record { low = omega arith; tag = refl; model = refl; declared = refl; port = refl; replaced = refl })
 
 two-parts : (x y a b : ℕ) → a < 5 → b < 5 → eqb (8 * x + a) (8 * y + b) ≡ eqb x y && eqb a b
 two-parts x y a b h l =
@@ -168,10 +157,8 @@ module _ (s : Recipe) where
   pub same-tags : (q p : ℕ) → In q (places s) → In p (places s) → (q ≡ p → ⊥) → eqb (tagAt s q) (tagAt s p) ≡ sharing q p
   unfolding tagAt isModel shareNames isDeclared isElement isSubmodel isPort isReplacedBy spaces
   same-tags q p i j n =
-      let kq = known-kind (kind s q) (known s q (readable s q i)) in
-      let kp = known-kind (kind s p) (known s p (readable s p j)) in
-      let a = shape (kind s q) q (holder s q) (kq .0) (kq .1) in
-      let b = shape (kind s p) p (holder s p) (kp .0) (kp .1) in
+      let a = shape q (holder s q) (kind s q) (known s q (readable s q i)) in
+      let b = shape p (holder s p) (kind s p) (known s p (readable s p j)) in
       rw (a .1 .tag, b .1 .tag, a .1 .model, b .1 .model, a .1 .declared, b .1 .declared, a .1 .port, b .1 .port, a .1 .replaced, b .1 .replaced)
       (two-parts _ _ (a .0) (b .0) (a .1 .low) (b .1 .low)
       ∙ agree (a .0) (b .0) q p (holder s q) (holder s p) (a .1 .low) (b .1 .low) n)
@@ -180,20 +167,17 @@ module _ (s : Recipe) where
   pub tag-model : (p : ℕ) → In p (places s) → eqb (tagAt s p) 0 ≡ isModel s p
   unfolding tagAt isModel
   tag-model p i =
-      let k = known-kind (kind s p) (known s p (readable s p i)) in
-      let a = shape (kind s p) p (holder s p) (k .0) (k .1) in
+      let a = shape p (holder s p) (kind s p) (known s p (readable s p i)) in
       rw (a .1 .tag, a .1 .model) (space-model (a .0) p (holder s p))
 
   pub tag-declared : (p d : ℕ) → In p (places s) → eqb (tagAt s p) (8 * d + 1) ≡ eqb (holder s p) d && isDeclared s p
   unfolding tagAt isDeclared isElement isSubmodel
   tag-declared p d i =
-      let k = known-kind (kind s p) (known s p (readable s p i)) in
-      let a = shape (kind s p) p (holder s p) (k .0) (k .1) in
+      let a = shape p (holder s p) (kind s p) (known s p (readable s p i)) in
       rw (a .1 .tag, a .1 .declared) (space-in (a .0) p (holder s p) d 1 (a .1 .low) (omega arith) (λ q. omega arith) (λ q. omega arith))
 
   pub tag-port : (p d : ℕ) → In p (places s) → eqb (tagAt s p) (8 * d + 2) ≡ eqb (holder s p) d && isPort s p
   unfolding tagAt isPort
   tag-port p d i =
-      let k = known-kind (kind s p) (known s p (readable s p i)) in
-      let a = shape (kind s p) p (holder s p) (k .0) (k .1) in
+      let a = shape p (holder s p) (kind s p) (known s p (readable s p i)) in
       rw (a .1 .tag, a .1 .port) (space-in (a .0) p (holder s p) d 2 (a .1 .low) (omega arith) (λ q. omega arith) (λ q. omega arith))

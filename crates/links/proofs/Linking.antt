@@ -1,28 +1,28 @@
 -- The tables of links, record by record, as the code finds them.
 -- Assumes nothing.
 use mathlib.Core.Path.{_≡_, sym, ap, _∙_}
-use mathlib.Core.Logic.{_⊎_, inl, inr, ⊎-elim}
-use mathlib.Core.Bool.{Bool, true, false, not, _&&_, _||_}
+use mathlib.Core.Logic.{_⊎_, ⊎-elim}
+use mathlib.Core.Bool.{Bool, true, false, _||_}
 use mathlib.Core.Option.{Option, none, some, Option·getD}
 use mathlib.Core.List.{List}
-use Prim.Native.Nat.{ℕ, _+_, _*_, _≤_, _<_}
+use Prim.Native.Nat.{ℕ, _+_, _≤_, _<_}
 use native.Mathlib.Omega.{arith}
 use lib.ListN.{length, getD}
-use lib.Dec.{eqb, ltb}
-use borrow.Author.Tests.{eqb-true, eqb-false, eq-eqb, ne-eqb, ltb-true, ltb-false, not-true}
+use lib.Dec.{eqb}
+use borrow.Author.Tests.{eqb-true, ne-eqb}
 use Rattle.names.specs.Lists.{In, keep}
 use Rattle.names.specs.Names.{text, isBlank, fieldAt}
 use Rattle.names.specs.Scans.{foundOf}
 use Rattle.names.specs.declared.Found.{Found}
-use Rattle.names.proofs.Tests.{by-cases, by-option, and-left, and-right, or-right, apart}
+use Rattle.names.proofs.Tests.{by-option, or-cases}
 use Rattle.names.proofs.Lists.{in-keep}
-use Rattle.recipe.specs.Records.{Recipe, kind, places, isModel, isElement, isPort, isSubmodel, isDeletion, isReplacement, isReplacedBy, isMark, field, firstField, parentField, referenceField, submodelField, submodelOffset, modelField}
-use Rattle.recipe.specs.Definitions.{main, definitions, holder, recordsOf, definitionNamed, modelOf, ownerOf, elementIn}
-use Rattle.recipe.proofs.Reading.{readable}
+use Rattle.recipe.specs.Records.{Recipe, kind, places, isModel, isElement, isPort, isSubmodel, isReplacement, isReplacedBy, isMark, partOffset, submodelPart, portKind, ownedKind, pointerKind, field, firstField, parentField, referenceField, submodelField, submodelOffset, modelField}
+use Rattle.recipe.specs.Definitions.{main, definitions, holder, recordsOf, definitionNamed, modelOf, ownerOf, elementIn, submodelOf}
+use Rattle.recipe.proofs.Bodies.{pointer-kind}
 use Rattle.recipe.proofs.Definitions.{named-in, in-records, definition-named}
 use Rattle.links.specs.Entries.{Clear, declaredNamed, NameField}
-use Rattle.links.specs.Links.{Recorded, offsetOf, placeOf, submodelOf, modelLink, ownerLink, submodelLink, elementLink, parentLink, referenceLink}
-use Rattle.links.proofs.Places.{place-room, known, known-kind}
+use Rattle.links.specs.Links.{Recorded, placeOf, modelLink, ownerLink, submodelLink, elementLink, parentLink, referenceLink}
+use Rattle.links.proofs.Places.{place-room}
 use Rattle.links.proofs.Entering.{first-field}
 use Rattle.links.proofs.Lookups.{element-look, submodel-look}
 use Rattle.links.proofs.Fields.{room-target, parent-reads, reference-reads, port-submodel-reads, mark-submodel-reads}
@@ -50,13 +50,6 @@ declared-low {s} c k d n e =
     place-low c (declaredNamed s k d n) e
     (λ p z. in-records s d p (in-keep (λ q. eqb (kind s q) k) (recordsOf s d) p (named-in s n (keep (λ q. eqb (kind s q) k) (recordsOf s d)) p z .0) .0) .0)
 
--- a port or mark, by its kind
-pub pointing : {k : ℕ} → not (eqb k 3) && ltb k 5 ≡ false → (k ≡ 3) ⊎ (5 ≤ k)
-pointing {k} e =
-    by-cases (eqb k 3)
-    (λ h. inl (eqb-true k 3 h))
-    (λ h. inr (ltb-false k 5 (rw h at e)))
-
 module _ {s : Recipe} {at fields keys index : List ℕ} {n p d : ℕ} (x : Recorded s at fields keys index n p d) where
   clear : Clear s
   clear = x .named .indexed .clear
@@ -72,56 +65,32 @@ module _ {s : Recipe} {at fields keys index : List ℕ} {n p d : ℕ} (x : Recor
   model-link {f} k ef er ev = rw k (ev ∙ (place-is (definitionNamed s (text f)) er ∙ rw ef))
 
   -- ---- a mark's owner
-  pub owner-other : eqb (getD (s .bytes) p 0) 6 || eqb (getD (s .bytes) p 0) 7 ≡ false → 0 ≡ ownerLink s p
+  pub owner-other : ownedKind (getD (s .bytes) p 0) ≡ false → 0 ≡ ownerLink s p
   unfolding ownerLink isReplacement isReplacedBy kind
   owner-other e = rw e
 
-  pub owner-link : {f : List ℕ} {r : Found} {v : ℕ} → eqb (getD (s .bytes) p 0) 6 || eqb (getD (s .bytes) p 0) 7 ≡ true
+  pub owner-link : {f : List ℕ} {r : Found} {v : ℕ} → ownedKind (getD (s .bytes) p 0) ≡ true
       → f ≡ fieldAt (s .width) (s .bytes) (p + 1) → r ≡ foundOf (declaredNamed s 2 d (text f)) → v ≡ placeOf r → v ≡ ownerLink s p
   unfolding ownerLink isReplacement isReplacedBy kind ownerOf main
   owner-link {f} k ef er ev =
       rw k (ev ∙ (place-is (declaredNamed s 2 d (text f)) er ∙ rw (ef ∙ first-field s p, x .held, element-look s (holder s p) (text (firstField s p)))))
 
   -- ---- the submodel of a port or mark
-  pub not-pointing : not (eqb (getD (s .bytes) p 0) 3) && ltb (getD (s .bytes) p 0) 5 ≡ true → isPort s p || isMark s p ≡ false
-  unfolding isPort isMark isDeletion isReplacement isReplacedBy kind
-  not-pointing e =
-      let l = ltb-true (getD (s .bytes) p 0) 5 (and-right (not (eqb (getD (s .bytes) p 0) 3)) _ e) in
-      rw (
-        not-true (eqb (getD (s .bytes) p 0) 3) (and-left (not (eqb (getD (s .bytes) p 0) 3)) _ e),
-        ne-eqb (getD (s .bytes) p 0) 5 (λ q. omega arith),
-        ne-eqb (getD (s .bytes) p 0) 6 (λ q. omega arith),
-        ne-eqb (getD (s .bytes) p 0) 7 (λ q. omega arith),
-      )
+  pub pointing : isMark s p || isPort s p ≡ pointerKind (getD (s .bytes) p 0)
+  unfolding kind
+  pointing = pointer-kind s p
 
-  pub is-pointing : (getD (s .bytes) p 0 ≡ 3) ⊎ (5 ≤ getD (s .bytes) p 0) → isPort s p || isMark s p ≡ true
-  unfolding isPort isMark isDeletion isReplacement isReplacedBy kind
-  is-pointing (inl e) = rw e
-  is-pointing (inr h) =
-      let m : getD (s .bytes) p 0 ≤ 7 = known-kind (kind s p) (known s p (readable s p (x .placed))) .1 in
-      or-right (eqb (getD (s .bytes) p 0) 3) _
-      (by-cases (eqb (getD (s .bytes) p 0) 5)
-      (λ a. rw a)
-      (λ a.
-      by-cases (eqb (getD (s .bytes) p 0) 6)
-      (λ b. rw (a, b))
-      (λ b.
-      let six : 6 ≤ getD (s .bytes) p 0 = apart h (λ q. eqb-false (getD (s .bytes) p 0) 5 a (sym q)) in
-      let seven : 7 ≤ getD (s .bytes) p 0 = apart six (λ q. eqb-false (getD (s .bytes) p 0) 6 b (sym q)) in
-      rw (a, b) (eq-eqb (getD (s .bytes) p 0) 7 (omega arith)))))
-
-  pub submodel-other : not (eqb (getD (s .bytes) p 0) 3) && ltb (getD (s .bytes) p 0) 5 ≡ true → 0 ≡ submodelLink s p
+  pub submodel-other : pointerKind (getD (s .bytes) p 0) ≡ false → 0 ≡ submodelLink s p
   unfolding submodelLink
-  submodel-other e = rw (not-pointing e)
+  submodel-other e = rw (pointing ∙ e)
 
-  module _ (k : (getD (s .bytes) p 0 ≡ 3) ⊎ (5 ≤ getD (s .bytes) p 0)) {o : ℕ} (eo : o ≡ offsetOf (getD (s .bytes) p 0) (s .width)) where
+  module _ (k : pointerKind (getD (s .bytes) p 0) ≡ true) {o : ℕ} (eo : o ≡ partOffset (s .width) (getD (s .bytes) p 0) (submodelPart (getD (s .bytes) p 0))) where
     pub offset-is : o ≡ submodelOffset s p
-    unfolding submodelOffset isDeletion kind offsetOf
-    offset-is = eo ∙ by-cases (eqb (getD (s .bytes) p 0) 5) (λ e. rw (e, submodelOffset)) (λ e. rw (e, submodelOffset))
+    unfolding submodelOffset kind
+    offset-is = eo
 
     pub room-pointer : p + 1 + o + s .width ≤ length (s .bytes)
-    unfolding kind
-    room-pointer = omega (arith, offset-is, room-target s p (x .placed) k)
+    room-pointer = omega (arith, offset-is, room-target s p (x .placed) (pointing ∙ k))
 
     module _ {f : List ℕ} (ef : f ≡ fieldAt (s .width) (s .bytes) (p + 1 + o)) {b : Bool} (eb : b ≡ isBlank f) where
       pub submodel-is : f ≡ submodelField s p
@@ -132,26 +101,26 @@ module _ {s : Recipe} {at fields keys index : List ℕ} {n p d : ℕ} (x : Recor
       blank-is = sym (eb ∙ ap isBlank submodel-is)
 
       pub pointer-sought : b ≡ false → NameField (s .width) f
-      unfolding kind
+      unfolding isPort
       pointer-sought h =
           rw submodel-is
           (⊎-elim
-          (λ (e : getD (s .bytes) p 0 ≡ 3). port-submodel-reads s p (x .placed) (clear .formed) e (blank-is ∙ h))
-          (λ (e : 5 ≤ getD (s .bytes) p 0). mark-submodel-reads s p (x .placed) (clear .formed) e)
-          k)
+          (λ (m : isMark s p ≡ true). mark-submodel-reads s p (x .placed) (clear .formed) m)
+          (λ (e : portKind (kind s p) ≡ true). port-submodel-reads s p (x .placed) (clear .formed) (eqb-true (kind s p) 3 e) (blank-is ∙ h))
+          (or-cases (isMark s p) (isPort s p) (pointing ∙ k)))
 
       pub submodel-blank : b ≡ true → 0 ≡ submodelLink s p
       unfolding submodelLink
-      submodel-blank h = rw (is-pointing k, blank-is ∙ h)
+      submodel-blank h = rw (pointing ∙ k, blank-is ∙ h)
 
       pub submodel-link : {r : Found} {v : ℕ} → b ≡ false → r ≡ foundOf (declaredNamed s 4 d (text f)) → v ≡ placeOf r → v ≡ submodelLink s p
       unfolding submodelLink submodelOf
       submodel-link h er ev =
-          rw (is-pointing k, blank-is ∙ h)
+          rw (pointing ∙ k, blank-is ∙ h)
           (ev ∙ (place-is (declaredNamed s 4 d (text f)) er ∙ rw (submodel-is, x .held, submodel-look s (holder s p) (text (submodelField s p)))))
 
   -- ---- an element's parent and reference
-  module _ (k : getD (s .bytes) p 0 ≡ 2) {o : ℕ} (eo : (o ≡ s .width + 1) ⊎ (o ≡ 2 * s .width + 1)) {f : List ℕ} (ef : f ≡ fieldAt (s .width) (s .bytes) (p + 1 + o)) {b : Bool} (eb : b ≡ isBlank f) where
+  module _ (k : getD (s .bytes) p 0 ≡ 2) {o : ℕ} (eo : (o ≡ s .width + 1) ⊎ (o ≡ s .width + (1 + s .width))) {f : List ℕ} (ef : f ≡ fieldAt (s .width) (s .bytes) (p + 1 + o)) {b : Bool} (eb : b ≡ isBlank f) where
     field-is : f ≡ field s p o
     unfolding field
     field-is = ef
@@ -165,7 +134,7 @@ module _ {s : Recipe} {at fields keys index : List ℕ} {n p d : ℕ} (x : Recor
         rw field-is
         (⊎-elim
         (λ (e : o ≡ s .width + 1). rw e (parent-reads s p (x .placed) (clear .formed) k (rw e at (filled-is ∙ h))))
-        (λ (e : o ≡ 2 * s .width + 1). rw e (reference-reads s p (x .placed) (clear .formed) k (rw e at (filled-is ∙ h))))
+        (λ (e : o ≡ s .width + (1 + s .width)). rw e (reference-reads s p (x .placed) (clear .formed) k (rw e at (filled-is ∙ h))))
         eo)
 
     pub element-blank : b ≡ true → 0 ≡ elementLink s p o
@@ -190,6 +159,6 @@ module _ {s : Recipe} {at fields keys index : List ℕ} {n p d : ℕ} (x : Recor
   unfolding referenceLink isElement kind
   reference-other m = rw (ne-eqb (getD (s .bytes) p 0) 2 m)
 
-  pub reference-link : {v : ℕ} → getD (s .bytes) p 0 ≡ 2 → v ≡ elementLink s p (2 * s .width + 1) → v ≡ referenceLink s p
+  pub reference-link : {v : ℕ} → getD (s .bytes) p 0 ≡ 2 → v ≡ elementLink s p (s .width + (1 + s .width)) → v ≡ referenceLink s p
   unfolding referenceLink elementLink referenceField isElement kind
   reference-link k e = rw k e

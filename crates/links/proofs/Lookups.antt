@@ -13,17 +13,18 @@ use Rattle.names.specs.Lists.{In, keep, first, same}
 use Rattle.names.specs.Names.{text}
 use Rattle.names.specs.Scans.{scan}
 use Rattle.names.proofs.Tests.{by-cases, not-both, both, and-left, and-right}
-use Rattle.names.proofs.Lists.{in-keep, keep-in, none-first, some-first, first-none, first-is, same-true, eq-same}
+use Rattle.names.proofs.Lists.{in-keep, keep-in, none-first, some-first, first-none, first-is, same-true, eq-same, first-keep}
 use Rattle.names.proofs.Scans.{scan-same, scan-below}
 use Rattle.recipe.specs.Records.{Recipe, kind, places, isModel, isElement, isPort, isSubmodel, firstField, name}
 use Rattle.recipe.specs.Definitions.{definitions, holder, recordsOf, elements, submodels, ports, isDeclared, named, definitionNamed, elementNamed, submodelNamed, portNamed}
 use Rattle.recipe.specs.Reading.{fault₃, fault₄}
 use Rattle.recipe.proofs.Definitions.{in-records}
 use Rattle.recipe.proofs.Rows.{Declared, one-record}
+use Rattle.recipe.proofs.Rows.{first-name}
 use Rattle.links.specs.Entries.{tagAt, keyOf, Indexed, entryNamed, declaredNamed, NameField}
-use Rattle.links.proofs.Places.{first-numbered, first-keep, first-same}
+use Rattle.links.proofs.Places.{first-numbered, first-same}
 use Rattle.links.proofs.Keys.{same-keys, same-fields, tag-model, tag-declared, tag-port}
-use Rattle.links.proofs.Repeats.{first-name, first-length, entry, numbered, entry-is}
+use Rattle.links.proofs.Repeats.{first-length, entry, numbered, entry-is}
 
 module _ {s : Recipe} {at fields keys index : List ℕ} {n : ℕ} (x : Indexed s at fields keys index n) where
   entry-scan : (t : ℕ) (f : List ℕ) → entryNamed s t f ≡ Option·map (numbered s x) (scan (λ i. same (entry s x i) (keyOf t f ∷ f)) n)

@@ -2,38 +2,27 @@
 -- Assumes nothing.
 use mathlib.Core.Path.{_≡_, refl, sym, ap, _∙_}
 use mathlib.Core.Logic.{inl, inr}
-use mathlib.Core.Bool.{Bool, true, _&&_}
+use mathlib.Core.Bool.{Bool, true}
 use mathlib.Core.Option.{some, Option·map}
 use mathlib.Core.List.{List, [], _∷_}
 use Prim.Native.Nat.{ℕ, zero, suc, _+_, _≤_, _<_}
 use native.Mathlib.Omega.{arith}
 use lib.ListN.{length, getD, drop, set, length-set, length-drop}
 use lib.Seq.{getD-set-same, getD-set-other}
-use lib.Dec.{leb}
-use borrow.Author.Tests.{leb-true}
-use Rattle.names.specs.Lists.{In, keep, first}
+use Rattle.names.specs.Lists.{In, first}
 use Rattle.names.specs.Scans.{scan, firstFrom}
-use Rattle.names.proofs.Tests.{by-cases, three, and-left, and-right}
-use Rattle.names.proofs.Lists.{at-cons}
+use Rattle.names.proofs.Tests.{by-cases, three}
+use Rattle.names.proofs.Lists.{at-cons, getD-in, in-getD}
 use Rattle.names.proofs.ListOrder.{Rising, rising-in}
-use Rattle.recipe.specs.Records.{Recipe, kind, isKnown, bodyLengths, recordLength, next, isReadable, placesFrom, places}
-use Rattle.recipe.proofs.Reading.{places-suffice, places-rise, readable, readable-fits}
+use Rattle.recipe.specs.Records.{Recipe, kind, next, isReadable, placesFrom, places}
+use Rattle.recipe.proofs.Bodies.{kind-least}
+use Rattle.recipe.proofs.Reading.{known, places-suffice, places-rise, readable, readable-fits}
 
 -- ---- lists by number
-pub at-in : (xs : List ℕ) (i : ℕ) → i < length xs → In (getD xs i 0) xs
-at-in [] i h = absurd (omega arith)
-at-in (x ∷ xs) zero h = inl refl
-at-in (x ∷ xs) (suc i) h = inr (at-in xs i (omega arith))
-
-pub in-at : (xs : List ℕ) (q : ℕ) → In q xs → (k : ℕ) × (k < length xs) × (getD xs k 0 ≡ q)
-in-at [] q m = absurd m
-in-at (x ∷ xs) q (inl e) = (0, omega arith, sym e)
-in-at (x ∷ xs) q (inr m) = let r = in-at xs q m in (suc (r .0), omega (arith, r .1), r .2)
-
 pub rising-at : (p : ℕ) (xs : List ℕ) (i j : ℕ) → Rising p xs → i < j → j < length xs → getD xs i 0 < getD xs j 0
 rising-at p [] i j r l h = absurd (omega arith)
 rising-at p (x ∷ xs) i zero r l h = absurd (omega arith)
-rising-at p (x ∷ xs) zero (suc j) r l h = let k = rising-in (suc x) xs (getD xs j 0) (r .1) (at-in xs j (omega arith)) in omega arith
+rising-at p (x ∷ xs) zero (suc j) r l h = let k = rising-in (suc x) xs (getD xs j 0) (r .1) (getD-in xs j 0 (omega arith)) in omega arith
 rising-at p (x ∷ xs) (suc i) (suc j) r l h = rising-at (suc x) xs i j (r .1) (omega arith) (omega arith)
 
 -- what is left of a list begins with x: that is the next, and what is left behind it
@@ -46,14 +35,7 @@ drop-next i xs x ys e =
 pub drop-over : (i : ℕ) (xs : List ℕ) → drop i xs ≡ [] → length xs ≤ i
 drop-over i xs e = let k = length-drop i xs in let m : length (drop i xs) ≡ 0 = ap length e in omega arith
 
--- the first of those that are kept, and a first that looks at nothing but the list
-pub first-keep : (t u : ℕ → Bool) (xs : List ℕ) → first t (keep u xs) ≡ first (λ x. u x && t x) xs
-first-keep t u [] = refl
-first-keep t u (x ∷ xs) =
-    by-cases (u x)
-    (λ e. by-cases (t x) (λ h. rw (e, keep, h, first)) (λ h. rw (e, keep, h, first) (first-keep t u xs)))
-    (λ e. rw (e, keep, first) (first-keep t u xs))
-
+-- a first that looks at nothing but the list
 pub first-same : (t u : ℕ → Bool) (xs : List ℕ) → ((x : ℕ) → In x xs → t x ≡ u x) → first t xs ≡ first u xs
 first-same t u [] h = refl
 first-same t u (x ∷ xs) h =
@@ -81,31 +63,10 @@ unfolding scan
 first-numbered t xs = first-numbered-from t xs 0 xs refl
 
 -- ---- records
-pub known-kind : (k : ℕ) → isKnown k ≡ true → (1 ≤ k) × (k ≤ 7)
-unfolding isKnown
-known-kind k e = (leb-true 1 k (and-left (leb 1 k) (leb k 7) e), leb-true k 7 (and-right (leb 1 k) (leb k 7) e))
-
--- a record that is read has a kind byte and a name field at least
-kind-least : (w k : ℕ) → 1 ≤ k → k ≤ 7 → w + 1 ≤ recordLength w k
-unfolding recordLength bodyLengths
-kind-least w zero a b = absurd (omega arith)
-kind-least w (suc zero) a b = omega arith
-kind-least w (suc (suc zero)) a b = omega arith
-kind-least w (suc (suc (suc zero))) a b = omega arith
-kind-least w (suc (suc (suc (suc zero)))) a b = omega arith
-kind-least w (suc (suc (suc (suc (suc zero))))) a b = omega arith
-kind-least w (suc (suc (suc (suc (suc (suc zero)))))) a b = omega arith
-kind-least w (suc (suc (suc (suc (suc (suc (suc zero))))))) a b = omega arith
-kind-least w (suc (suc (suc (suc (suc (suc (suc (suc k)))))))) a b = absurd (omega arith)
-
 module _ (s : Recipe) where
-  pub known : (p : ℕ) → isReadable s p ≡ true → isKnown (kind s p) ≡ true
-  unfolding isReadable
-  known p e = and-left (isKnown (kind s p)) _ (and-left _ _ e)
-
   pub next-least : (p : ℕ) → isReadable s p ≡ true → p + (s .width + 1) ≤ next s p
   unfolding next
-  next-least p e = let k = known-kind (kind s p) (known p e) in omega (arith, kind-least (s .width) (kind s p) (k .0) (k .1))
+  next-least p e = omega (arith, kind-least (s .width) (kind s p) (known s p e))
 
   pub place-room : (p : ℕ) → In p (places s) → p + (s .width + 1) ≤ length (s .bytes)
   place-room p i = let e = readable s p i in omega (arith, next-least p e, readable-fits s p e)
@@ -127,7 +88,7 @@ module _ (s : Recipe) where
 
   -- ---- by number
   pub numbered-in : (i : ℕ) → i < length (places s) → In (getD (places s) i 0) (places s)
-  numbered-in i h = at-in (places s) i h
+  numbered-in i h = getD-in (places s) i 0 h
 
   pub numbered-less : (i j : ℕ) → i < j → j < length (places s) → getD (places s) i 0 < getD (places s) j 0
   numbered-less i j l h = rising-at 0 (places s) i j (places-rise s) l h
@@ -160,5 +121,5 @@ module _ (s : Recipe) where
   pub filling-end : {f : ℕ → ℕ} {out₀ out : List ℕ} {i : ℕ} → Filling f out₀ out i → length (places s) ≤ i
       → (p : ℕ) → In p (places s) → getD out p 0 ≡ f p
   filling-end {f} {out₀} {out} {i} r h p m =
-      let k = in-at (places s) p m in
-      ap (λ (x : ℕ). getD out x 0) (sym (k .2)) ∙ (r .done (k .0) (omega (arith, k .1)) ∙ ap f (k .2))
+      let k = in-getD (places s) p 0 m in
+      ap (λ (x : ℕ). getD out x 0) (k .1 .1) ∙ (r .done (k .0) (omega (arith, k .1 .0)) ∙ ap f (sym (k .1 .1)))

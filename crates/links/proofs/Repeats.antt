@@ -1,7 +1,7 @@
 -- Row 4 by record number: the first whose key and first field stand earlier too.
 -- Assumes nothing.
 use mathlib.Core.Path.{_≡_, sym, ap, _∙_}
-use mathlib.Core.Bool.{true, not, _&&_}
+use mathlib.Core.Bool.{_&&_}
 use mathlib.Core.Option.{none, some, Option·map}
 use mathlib.Core.List.{List, _∷_, _++_}
 use Prim.Native.Nat.{ℕ, _+_, _*_, _≤_, _<_}
@@ -10,42 +10,23 @@ use native.Mathlib.Nat.{mul-le-mul-left}
 use lib.ListN.{length, getD, take, drop, length-drop, length-append}
 use lib.Seq.{length-take-le, take-at}
 use lib.Dec.{ltb}
-use borrow.Author.Tests.{ltb-true, lt-ltb, not-false}
+use borrow.Author.Tests.{ltb-true, lt-ltb}
 use Rattle.names.specs.Lists.{In, any, first, same}
-use Rattle.names.specs.Names.{isName, isNameOrBlank, fieldAt}
+use Rattle.names.specs.Names.{fieldAt}
 use Rattle.names.specs.Scans.{scan}
-use Rattle.names.proofs.Tests.{by-cases, both-ways, both, and-left, and-right}
-use Rattle.names.proofs.Lists.{any-in, any-some, none-first, same-eq}
+use Rattle.names.proofs.Tests.{both-ways, both, and-left, and-right}
+use Rattle.names.proofs.Lists.{any-in, any-some, same-eq, getD-in, in-getD}
 use Rattle.names.proofs.Scans.{scan-same, scan-some, some-scan, scan-below}
 use Rattle.name_index.specs.Index.{keyedName, isRepeat, Whole, Indexes, ordered}
 use Rattle.name_index.proofs.Sorted.{ordered-length}
-use Rattle.flat_table.specs.Classes.{isClass}
-use Rattle.recipe.specs.Records.{Recipe, places, isModel, isElement, isPort, isSubmodel, class, field, firstField, name, parentField, referenceField, submodelField, modelField, targetField, way}
-use Rattle.recipe.specs.Reading.{isForm, isElementForm, isPortForm, isSubmodelForm, isMarkForm, endsWithUnderscore, isWay, fault₃, repeats, fault₄}
+use Rattle.recipe.specs.Records.{Recipe, places, field, firstField, name}
+use Rattle.recipe.specs.Reading.{fault₃, repeats, fault₄}
+use Rattle.recipe.proofs.Rows.{first-name}
 use Rattle.links.specs.Entries.{tagAt, keyOf, layout, Listed, Indexed}
-use Rattle.links.proofs.Places.{at-in, in-at, first-numbered, place-room, numbered-less, less-numbered}
+use Rattle.links.proofs.Places.{first-numbered, place-room, numbered-less, less-numbered}
 use Rattle.links.proofs.Keys.{same-fields, same-keys, same-tags, sharing}
 
 module _ (s : Recipe) where
-  -- row 3 does not apply: the first field of each record is a name
-  pub first-name : fault₃ s ≡ none → (p : ℕ) → In p (places s) → isName (firstField s p) ≡ true
-  unfolding fault₃ isForm isElementForm isPortForm isSubmodelForm isMarkForm
-  first-name h p i =
-      let f : isForm s p ≡ true = not-false (isForm s p) (none-first (λ q. not (isForm s q)) (places s) p h i) in
-      let n = isName (firstField s p) in
-      by-cases (isModel s p)
-      (λ a. rw a at f)
-      (λ a.
-      by-cases (isElement s p)
-      (λ b. and-left n (isClass (class s p)) (and-left _ (isNameOrBlank (parentField s p)) (and-left _ (isNameOrBlank (referenceField s p)) (rw (a, b) at f))))
-      (λ b.
-      by-cases (isPort s p)
-      (λ c. and-left n (isNameOrBlank (submodelField s p)) (and-left _ (isWay (way s p)) (and-left _ (isName (targetField s p)) (rw (a, b, c) at f))))
-      (λ c.
-      by-cases (isSubmodel s p)
-      (λ d. and-left n (not (endsWithUnderscore (name s p))) (and-left _ (isName (modelField s p)) (rw (a, b, c, d) at f)))
-      (λ d. and-left n (isName (submodelField s p)) (and-left _ (isWay (way s p)) (and-left _ (isName (targetField s p)) (rw (a, b, c, d) at f)))))))
-
   pub first-length : (p : ℕ) → In p (places s) → length (firstField s p) ≡ s .width
   unfolding firstField field fieldAt
   first-length p i =
@@ -58,7 +39,7 @@ module _ (s : Recipe) where
   unfolding name
   same-entries h q p i j n =
       same-keys (tagAt s q) (tagAt s p) (firstField s q) (firstField s p)
-      ∙ rw (same-tags s q p i j n, same-fields (firstField s q) (firstField s p) (first-name h q i) (first-name h p j) (first-length q i ∙ sym (first-length p j)))
+      ∙ rw (same-tags s q p i j n, same-fields (firstField s q) (firstField s p) (first-name s h q i) (first-name s h p j) (first-length q i ∙ sym (first-length p j)))
 
   module _ {at fields keys index : List ℕ} {n : ℕ} (x : Indexed s at fields keys index n) where
     abbrev pub entry : ℕ → List ℕ
@@ -77,7 +58,7 @@ module _ (s : Recipe) where
     twins j i h l =
         let m : j < n = omega arith in
         same-eq (entry-is j m) (entry-is i l)
-        ∙ (same-entries (x .clear .formed) (numbered j) (numbered i) (at-in (places s) j (below m)) (at-in (places s) i (below l))
+        ∙ (same-entries (x .clear .formed) (numbered j) (numbered i) (getD-in (places s) j 0 (below m)) (getD-in (places s) i 0 (below l))
         (λ e. let z = numbered-less s j i h (below l) in omega arith))
 
     repeat-is : (i : ℕ) → i < n → any (repeats s (numbered i)) (places s) ≡ isRepeat entry i
@@ -88,17 +69,17 @@ module _ (s : Recipe) where
         (λ e.
         let r = any-some (repeats s p) (places s) e in
         let q = r .0 in
-        let k = in-at (places s) q (r .1) in
+        let k = in-getD (places s) q 0 (r .1) in
         let lq = and-left (ltb q p && same (name s q) (name s p)) (sharing s q p) (r .2) in
         let less : q < p = ltb-true q p (and-left (ltb q p) (same (name s q) (name s p)) lq) in
-        let j : k .0 < i = less-numbered s (k .0) i (k .1) (below h) (rw (k .2) less) in
+        let j : k .0 < i = less-numbered s (k .0) i (k .1 .0) (below h) (rw (← k .1 .1) less) in
         some-scan (λ j′. same (entry j′) (entry i)) i (k .0) j
-        (twins (k .0) i j h ∙ rw (k .2) (both (and-right (ltb q p && same (name s q) (name s p)) (sharing s q p) (r .2)) (and-right (ltb q p) (same (name s q) (name s p)) lq))))
+        (twins (k .0) i j h ∙ rw (← k .1 .1) (both (and-right (ltb q p && same (name s q) (name s p)) (sharing s q p) (r .2)) (and-right (ltb q p) (same (name s q) (name s p)) lq))))
         (λ e.
         let r = scan-some (λ j. same (entry j) (entry i)) i e in
         let q = numbered (r .0) in
         let t = sym (twins (r .0) i (r .1) h) ∙ r .2 in
-        any-in (repeats s p) (places s) q (at-in (places s) (r .0) (below (omega (arith, r .1))))
+        any-in (repeats s p) (places s) q (getD-in (places s) (r .0) 0 (below (omega (arith, r .1))))
         (both (both (lt-ltb q p (numbered-less s (r .0) i (r .1) (below h))) (and-right (sharing s q p) (same (name s q) (name s p)) t)) (and-left (sharing s q p) (same (name s q) (name s p)) t)))
 
     -- row 4: the record whose number the index gives

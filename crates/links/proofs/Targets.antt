@@ -1,38 +1,37 @@
 -- What a port or mark names, one record further, as the code finds it.
 -- Assumes nothing.
 use mathlib.Core.Path.{_≡_, refl, ap, _∙_}
-use mathlib.Core.Logic.{_⊎_, ⊎-elim}
-use mathlib.Core.Bool.{Bool, true, false, not, _&&_, true≢false}
+use mathlib.Core.Logic.{⊎-elim}
+use mathlib.Core.Bool.{Bool, true, false, true≢false}
 use mathlib.Core.Option.{some}
 use mathlib.Core.List.{List}
 use Prim.Native.Nat.{ℕ, _+_, _≤_, _<_}
 use native.Mathlib.Omega.{arith}
 use lib.ListN.{length, getD}
-use lib.Dec.{eqb, ltb}
-use borrow.Author.Tests.{ne-eqb}
+use lib.Dec.{eqb}
+use borrow.Author.Tests.{eqb-true, ne-eqb}
 use Rattle.names.specs.Lists.{In}
 use Rattle.names.specs.Names.{text, isBlank, fieldAt}
 use Rattle.names.specs.Scans.{foundOf}
 use Rattle.names.specs.declared.Found.{Found}
-use Rattle.names.proofs.Tests.{by-cases, by-option, or-none-left}
+use Rattle.names.proofs.Tests.{by-cases, by-option, or-cases, or-none-left}
 use Rattle.names.proofs.Lists.{none-first, in-keep}
-use Rattle.recipe.specs.Records.{Recipe, kind, places, isModel, byte, field, submodelField, submodelOffset, targetField, way}
-use Rattle.recipe.specs.Definitions.{definitions, submodels, holder, elementNamed, submodelNamed, portNamed, modelOf}
+use Rattle.recipe.specs.Records.{Recipe, partOffset, submodelPart, portKind, markKind, pointerKind, places, isModel, byte, field, submodelField, submodelOffset, targetField, way}
+use Rattle.recipe.specs.Definitions.{definitions, submodels, holder, elementNamed, submodelNamed, portNamed, modelOf, submodelOf, namedBy}
 use Rattle.recipe.specs.Reading.{isSubmodelFieldFault, isOwnerFault, isPortFault, isUndeclared, fault₅}
 use Rattle.recipe.proofs.Definitions.{submodel-named, element-named, port-named, in-submodels, in-elements, in-ports, model-in}
 use Rattle.links.specs.Entries.{Clear, declaredNamed, NameField}
-use Rattle.links.specs.Links.{Recorded, Linked, offsetOf, placeOf, submodelOf, modelLink, submodelLink, namedBy, nextLink}
+use Rattle.links.specs.Links.{Recorded, Linked, placeOf, modelLink, submodelLink, nextLink}
 use Rattle.links.proofs.Places.{place-room}
 use Rattle.links.proofs.Lookups.{element-look}
 use Rattle.links.proofs.Fields.{room-target, target-reads}
 use Rattle.links.proofs.Declarations.{undeclared-port, undeclared-mark}
-use Rattle.links.proofs.Linking.{place-is, place-low, offset-is, blank-is, is-pointing, not-pointing}
+use Rattle.links.proofs.Linking.{place-is, place-low, offset-is, blank-is, pointing}
 
 module _ {s : Recipe} {at fields keys index : List ℕ} {n p d : ℕ} (x : Recorded s at fields keys index n p d)
-    (k : (getD (s .bytes) p 0 ≡ 3) ⊎ (5 ≤ getD (s .bytes) p 0)) {o : ℕ} (eo : o ≡ offsetOf (getD (s .bytes) p 0) (s .width)) where
+    (k : pointerKind (getD (s .bytes) p 0) ≡ true) {o : ℕ} (eo : o ≡ partOffset (s .width) (getD (s .bytes) p 0) (submodelPart (getD (s .bytes) p 0))) where
   pub room-behind : p + 1 + (o + s .width + 1) + s .width ≤ length (s .bytes)
-  unfolding kind
-  room-behind = omega (arith, offset-is x k eo, room-target s p (x .placed) k)
+  room-behind = omega (arith, offset-is x k eo, room-target s p (x .placed) (pointing x ∙ k))
 
   module _ {f : List ℕ} (ef : f ≡ fieldAt (s .width) (s .bytes) (p + 1 + (o + s .width + 1))) where
     target-is : f ≡ targetField s p
@@ -40,8 +39,7 @@ module _ {s : Recipe} {at fields keys index : List ℕ} {n p d : ℕ} (x : Recor
     target-is = ef ∙ rw (offset-is x k eo)
 
     pub target-sought : NameField (s .width) f
-    unfolding kind
-    target-sought = rw target-is (target-reads s p (x .placed) (x .named .indexed .clear .formed) k)
+    target-sought = rw target-is (target-reads s p (x .placed) (x .named .indexed .clear .formed) (pointing x ∙ k))
 
     module _ {g : List ℕ} (eg : g ≡ fieldAt (s .width) (s .bytes) (p + 1 + o)) {b : Bool} (eb : b ≡ isBlank g) where
       pub named-own : {r : Found} → b ≡ true → r ≡ foundOf (declaredNamed s 2 d (text f)) → r ≡ foundOf (namedBy s p)
@@ -58,9 +56,11 @@ module _ {s : Recipe} {at fields keys index : List ℕ} {n p d : ℕ} (x : Recor
         unfolding isPortFault
         no-fault =
             ⊎-elim
-            (λ (e : getD (s .bytes) p 0 ≡ 3). let q : isPortFault s p ≡ false = undeclared-port s p e refl ∙ undeclared in rw (blank-is x k eo eg eb ∙ h) at q)
-            (λ (e : 5 ≤ getD (s .bytes) p 0). or-none-left (isSubmodelFieldFault s p) (isOwnerFault s p) (undeclared-mark s p e refl ∙ undeclared))
-            k
+            (λ (m : markKind (getD (s .bytes) p 0) ≡ true). or-none-left (isSubmodelFieldFault s p) (isOwnerFault s p) (undeclared-mark s p m refl ∙ undeclared))
+            (λ (e : portKind (getD (s .bytes) p 0) ≡ true).
+            let q : isPortFault s p ≡ false = undeclared-port s p (eqb-true (getD (s .bytes) p 0) 3 e) refl ∙ undeclared in
+            rw (blank-is x k eo eg eb ∙ h) at q)
+            (or-cases (markKind (getD (s .bytes) p 0)) (portKind (getD (s .bytes) p 0)) k)
 
         submodel-in : In (submodelOf s p) (submodels s (holder s p))
         unfolding isSubmodelFieldFault submodelOf
@@ -71,7 +71,7 @@ module _ {s : Recipe} {at fields keys index : List ℕ} {n p d : ℕ} (x : Recor
 
         pub submodel-there : getD sub p 0 ≡ submodelOf s p
         unfolding submodelLink
-        submodel-there = l .submodels-are p (x .placed) ∙ rw (is-pointing x k, blank-is x k eo eg eb ∙ h)
+        submodel-there = l .submodels-are p (x .placed) ∙ rw (pointing x ∙ k, blank-is x k eo eg eb ∙ h)
 
         pub submodel-low : getD sub p 0 < 16384
         submodel-low =
@@ -122,10 +122,10 @@ named-low {s} c p e =
     (λ b. in-ports s (modelOf s (submodelOf s p)) q (port-named s (modelOf s (submodelOf s p)) (text (targetField s p)) q (rw (a, b) at z) .0) .placed)))
 
 module _ {s : Recipe} {at fields keys index : List ℕ} {n p d : ℕ} (x : Recorded s at fields keys index n p d) where
-  pub next-other : not (eqb (getD (s .bytes) p 0) 3) && ltb (getD (s .bytes) p 0) 5 ≡ true → 0 ≡ nextLink s p
+  pub next-other : pointerKind (getD (s .bytes) p 0) ≡ false → 0 ≡ nextLink s p
   unfolding nextLink
-  next-other e = rw (not-pointing x e)
+  next-other e = rw (pointing x ∙ e)
 
-  pub next-link : {r : Found} {v : ℕ} → (getD (s .bytes) p 0 ≡ 3) ⊎ (5 ≤ getD (s .bytes) p 0) → r ≡ foundOf (namedBy s p) → v ≡ placeOf r → v ≡ nextLink s p
+  pub next-link : {r : Found} {v : ℕ} → pointerKind (getD (s .bytes) p 0) ≡ true → r ≡ foundOf (namedBy s p) → v ≡ placeOf r → v ≡ nextLink s p
   unfolding nextLink
-  next-link k e g = rw (is-pointing x k) (g ∙ place-is (namedBy s p) e)
+  next-link k e g = rw (pointing x ∙ k) (g ∙ place-is (namedBy s p) e)

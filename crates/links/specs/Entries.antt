@@ -12,7 +12,7 @@ use Rattle.names.specs.Names.{isName}
 use Rattle.name_index.specs.declared.Layout.{Layout}
 use Rattle.name_index.specs.Hash.{hashOf}
 use Rattle.name_index.specs.Index.{nameOf, Indexes}
-use Rattle.recipe.specs.Records.{Recipe, kind, places, stop, firstField}
+use Rattle.recipe.specs.Records.{Recipe, portKind, replacedByKind, kind, places, stop, firstField}
 use Rattle.recipe.specs.Definitions.{holder, recordsOf, named}
 use Rattle.recipe.specs.Reading.{fault₃}
 
@@ -21,8 +21,8 @@ use Rattle.recipe.specs.Reading.{fault₃}
 unfoldable pub tagOf : ℕ → ℕ → ℕ → ℕ
 tagOf k p d =
     cond (eqb k 1) 0
-    (cond (eqb k 3) (8 * d + 2)
-    (cond (eqb k 7) (8 * d + 3)
+    (cond (portKind k) (8 * d + 2)
+    (cond (replacedByKind k) (8 * d + 3)
     (cond (eqb k 2 || eqb k 4) (8 * d + 1)
     (8 * p + 4))))
 

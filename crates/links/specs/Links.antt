@@ -2,16 +2,15 @@
 -- Assumes nothing.
 use Prim.Native.Nat.{ℕ}
 use mathlib.Core.Path.{_≡_}
-use mathlib.Core.Bool.{cond, _||_}
-use mathlib.Core.Option.{Option, none, Option·getD}
-use lib.Dec.{eqb}
+use mathlib.Core.Bool.{cond}
+use mathlib.Core.Option.{none, Option·getD}
 use mathlib.Core.List.{List}
 use Rattle.names.specs.Lists.{In}
-use Rattle.names.specs.Names.{text, isBlank}
+use Rattle.names.specs.Names.{isBlank}
 use Rattle.names.specs.declared.Found.{Found}
 use Rattle.names.specs.declared.Found.the-variants.{At, Nothing}
-use Rattle.recipe.specs.Records.{Recipe, places, field, isElement, isPort, isSubmodel, isReplacement, isReplacedBy, isMark, parentField, referenceField, submodelField, targetField, way}
-use Rattle.recipe.specs.Definitions.{holder, elementNamed, submodelNamed, portNamed, modelOf, ownerOf, elementIn}
+use Rattle.recipe.specs.Records.{Recipe, places, field, isElement, isSubmodel, isOwned, isPointer, parentField, referenceField, submodelField}
+use Rattle.recipe.specs.Definitions.{holder, modelOf, ownerOf, elementIn, submodelOf, namedBy}
 use Rattle.recipe.specs.Reading.{fault₄, fault₅}
 use Rattle.links.specs.Entries.{Indexed, ByPlace}
 
@@ -26,30 +25,22 @@ pub record Recorded (s : Recipe) (at fields keys index : List ℕ) (n p d : ℕ)
   pub placed : In p (places s)
   pub held : d ≡ holder s p
 
--- where the submodel begins in the body of a record of kind k, of name width w
-unfoldable pub offsetOf : ℕ → ℕ → ℕ
-offsetOf k w = cond (eqb k 5) 0 w
-
 -- the place that a look-up gives, or 0, which is that of no record but main's
 abbrev pub placeOf : Found → ℕ
 placeOf (At p) = p
 placeOf Nothing = 0
 
--- the submodel of a port or mark (0 where there is none, which row 5 refuses)
-unfoldable pub submodelOf : Recipe → ℕ → ℕ
-submodelOf s r = Option·getD (submodelNamed s (holder s r) (text (submodelField s r))) 0
-
 -- by place, a submodel's model
 unfoldable pub modelLink : Recipe → ℕ → ℕ
 modelLink s p = cond (isSubmodel s p) (modelOf s p) 0
 
--- by place, the owner of a mark of kind 6 or 7
+-- by place, the owner of a mark that has one
 unfoldable pub ownerLink : Recipe → ℕ → ℕ
-ownerLink s p = cond (isReplacement s p || isReplacedBy s p) (ownerOf s p) 0
+ownerLink s p = cond (isOwned s p) (ownerOf s p) 0
 
 -- by place, the submodel of a port or mark, 0 of a blank
 unfoldable pub submodelLink : Recipe → ℕ → ℕ
-submodelLink s p = cond (isPort s p || isMark s p) (cond (isBlank (submodelField s p)) 0 (submodelOf s p)) 0
+submodelLink s p = cond (isPointer s p) (cond (isBlank (submodelField s p)) 0 (submodelOf s p)) 0
 
 -- the element that the field o bytes into the body of the element at p names, 0 of a blank and of one that names none
 unfoldable pub elementLink : Recipe → ℕ → ℕ → ℕ
@@ -63,18 +54,9 @@ parentLink s p = cond (isElement s p) (Option·getD (elementIn s p (parentField 
 unfoldable pub referenceLink : Recipe → ℕ → ℕ
 referenceLink s p = cond (isElement s p) (Option·getD (elementIn s p (referenceField s p)) 0) 0
 
--- "names its target by element name or by port name": the record that the port or mark at r names, an element or a port
-unfoldable pub namedBy : Recipe → ℕ → Option ℕ
-namedBy s r =
-    cond (isBlank (submodelField s r))
-    (elementNamed s (holder s r) (text (targetField s r)))
-    (cond (eqb (way s r) 0)
-    (elementNamed s (modelOf s (submodelOf s r)) (text (targetField s r)))
-    (portNamed s (modelOf s (submodelOf s r)) (text (targetField s r))))
-
 -- by place, the record that a port or mark names, 0 where there is none
 unfoldable pub nextLink : Recipe → ℕ → ℕ
-nextLink s p = cond (isPort s p || isMark s p) (Option·getD (namedBy s p) 0) 0
+nextLink s p = cond (isPointer s p) (Option·getD (namedBy s p) 0) 0
 
 -- the tables of the models and the submodels, of a recipe that row 5 does not refuse
 pub record Linked (s : Recipe) (model sub : List ℕ) : Type 0 where

@@ -3,17 +3,17 @@
 ghost use mathlib.Core.Path.{_≡_};
 ghost use mathlib.Core.Logic.{_⊎_};
 ghost use mathlib.Core.Option.{none};
-ghost use mathlib.Core.Bool.{not, _||_};
+ghost use mathlib.Core.Bool.{true, not, _||_};
 ghost use Prim.Native.Nat.{_+_, _*_, _≤_, _<_};
 ghost use lib.ListN.{length, getD};
 ghost use Rattle.names.specs.Lists.{isSome};
 ghost use Rattle.names.specs.Names.{fieldAt, text};
 ghost use Rattle.names.specs.Scans.{foundOf};
-ghost use Rattle.recipe.specs.Records.{Recipe};
-ghost use Rattle.recipe.specs.Definitions.{holder, definitionNamed, portNamed};
+ghost use Rattle.recipe.specs.Records.{Recipe, portKind, markKind, pointerKind};
+ghost use Rattle.recipe.specs.Definitions.{holder, definitionNamed, portNamed, namedBy};
 ghost use Rattle.recipe.specs.Reading.{fault₄, isParentFault, isOwnPortFault, isPortFault, isModelFault, isSubmodelFieldFault, isOwnerFault, isUndeclared, fault₅};
 ghost use Rattle.links.specs.Entries.{tagOf, keyOf, Clear, Listed, ByPlace, Copied, HasKeys, Indexed, entryNamed, declaredNamed, NameField};
-ghost use Rattle.links.specs.Links.{Named, Recorded, offsetOf, placeOf, modelLink, ownerLink, submodelLink, elementLink, parentLink, referenceLink, namedBy, nextLink, Linked};
+ghost use Rattle.links.specs.Links.{Named, Recorded, placeOf, modelLink, ownerLink, submodelLink, elementLink, parentLink, referenceLink, nextLink, Linked};
 ghost use Rattle.links.specs.Steps.{Put};
 use name_index::Layout;
 use names::Found;
@@ -85,10 +85,10 @@ fn tag(k: u8, p: u16, d: u16) -> u32
     if k == 1 {
         return 0;
     }
-    if k == 3 {
+    if recipe::is_port(k) {
         return 8 * (d as u32) + 2;
     }
-    if k == 7 {
+    if recipe::is_replaced_by(k) {
         return 8 * (d as u32) + 3;
     }
     if (k == 2) | (k == 4) {
@@ -312,13 +312,6 @@ fn parent_fault(
     !((q < p) & flat_table::parent_allowed(c, s[q + 1 + w]))
 }
 
-// Where the submodel begins in the body of a record of kind k.
-fn submodel_offset(k: u8, w: usize) -> usize
-    ensures { λ r. ⌜ r ≡ offsetOf k w ⌝ }
-{
-    if k == 5 { 0 } else { w }
-}
-
 // Whether 5 applies to the port at p, whose submodel is blank.
 fn own_port_fault(
     s: &[u8],
@@ -331,7 +324,7 @@ fn own_port_fault(
     p: usize,
     d: u16,
 ) -> bool
-    requires { ⌜ Recorded (record { width = w; bytes = now s }) (now at) (now fields) (now keys) (now index) n p d × (getD (now s) p 0 ≡ 3) ⌝ }
+    requires { ⌜ Recorded (record { width = w; bytes = now s }) (now at) (now fields) (now keys) (now index) n p d × (portKind (getD (now s) p 0) ≡ true) ⌝ }
     ensures { λ r. ⌜ r ≡ isOwnPortFault (record { width = w; bytes = now (s .entry) }) p ⌝ }
 {
     if s[p + 1 + (w + w)] == 1 {
@@ -363,7 +356,7 @@ fn port_fault(
     p: usize,
     d: u16,
 ) -> bool
-    requires { ⌜ Recorded (record { width = w; bytes = now s }) (now at) (now fields) (now keys) (now index) n p d × (getD (now s) p 0 ≡ 3) ⌝ }
+    requires { ⌜ Recorded (record { width = w; bytes = now s }) (now at) (now fields) (now keys) (now index) n p d × (portKind (getD (now s) p 0) ≡ true) ⌝ }
     ensures { λ r. ⌜ r ≡ isPortFault (record { width = w; bytes = now (s .entry) }) p ⌝ }
 {
     let f = field(s, p + 1 + w, w);
@@ -407,11 +400,11 @@ fn mark_fault(
     p: usize,
     d: u16,
 ) -> bool
-    requires { ⌜ Recorded (record { width = w; bytes = now s }) (now at) (now fields) (now keys) (now index) n p d × (5 ≤ getD (now s) p 0) ⌝ }
+    requires { ⌜ Recorded (record { width = w; bytes = now s }) (now at) (now fields) (now keys) (now index) n p d × (markKind (getD (now s) p 0) ≡ true) ⌝ }
     ensures { λ r. ⌜ r ≡ isSubmodelFieldFault (record { width = w; bytes = now (s .entry) }) p || isOwnerFault (record { width = w; bytes = now (s .entry) }) p ⌝ }
 {
     let k = s[p];
-    let o = submodel_offset(k, w);
+    let o = recipe::submodel_offset(k, w);
     if is_missing(
         s,
         w,
@@ -426,7 +419,7 @@ fn mark_fault(
     ) {
         return true;
     }
-    if k == 5 {
+    if !recipe::is_owned(k) {
         return false;
     }
     is_missing(s, w, n, at, fields, keys, index, 2, d, field(s, p + 1, w))
@@ -454,13 +447,16 @@ fn is_undeclared(
     if k == 2 {
         return parent_fault(s, w, n, at, fields, keys, index, p, d);
     }
-    if k == 3 {
+    if recipe::is_port(k) {
         return port_fault(s, w, n, at, fields, keys, index, p, d);
     }
     if k == 4 {
         return model_fault(s, w, n, at, fields, keys, index, p, d);
     }
-    mark_fault(s, w, n, at, fields, keys, index, p, d)
+    if recipe::is_mark(k) {
+        return mark_fault(s, w, n, at, fields, keys, index, p, d);
+    }
+    false
 }
 
 // The first record to which 5 applies.
@@ -520,7 +516,7 @@ fn model_at(
     place_of(find_definition(s, w, n, at, fields, keys, index, field(s, p + 1 + w, w)))
 }
 
-// The owner of a mark of kind 6 or 7, and 0 of another record.
+// The owner of a mark that has one, and 0 of another record.
 fn owner_at(
     s: &[u8],
     w: usize,
@@ -536,7 +532,7 @@ fn owner_at(
     ensures { λ r. ⌜ r ≡ ownerLink (record { width = w; bytes = now (s .entry) }) p ⌝ }
 {
     let k = s[p];
-    if (k == 6) | (k == 7) {
+    if recipe::is_owned(k) {
         return place_of(find_declared(s, w, n, at, fields, keys, index, 2, d, field(s, p + 1, w)));
     }
     0
@@ -558,17 +554,17 @@ fn submodel_at(
     ensures { λ r. ⌜ r ≡ submodelLink (record { width = w; bytes = now (s .entry) }) p ⌝ }
 {
     let k = s[p];
-    if (k != 3) & (k < 5) {
+    if !recipe::is_pointer(k) {
         return 0;
     }
-    let f = field(s, p + 1 + submodel_offset(k, w), w);
+    let f = field(s, p + 1 + recipe::submodel_offset(k, w), w);
     if names::is_blank(f) {
         return 0;
     }
     place_of(find_declared(s, w, n, at, fields, keys, index, 4, d, f))
 }
 
-// The element that the parent (the field at o, w + 1) or the reference (2 * w + 1) names, and 0 of a blank.
+// The element that the parent (the field at o, w + 1) or the reference (w + (1 + w)) names, and 0 of a blank.
 fn element_at(
     s: &[u8],
     w: usize,
@@ -581,7 +577,7 @@ fn element_at(
     d: u16,
     o: usize,
 ) -> u16
-    requires { ⌜ Recorded (record { width = w; bytes = now s }) (now at) (now fields) (now keys) (now index) n p d × ((getD (now s) p 0 ≡ 2) × ((o ≡ w + 1) ⊎ (o ≡ 2 * w + 1))) ⌝ }
+    requires { ⌜ Recorded (record { width = w; bytes = now s }) (now at) (now fields) (now keys) (now index) n p d × ((getD (now s) p 0 ≡ 2) × ((o ≡ w + 1) ⊎ (o ≡ w + (1 + w)))) ⌝ }
     ensures { λ r. ⌜ r ≡ elementLink (record { width = w; bytes = now (s .entry) }) p o ⌝ }
 {
     let f = field(s, p + 1 + o, w);
@@ -630,7 +626,7 @@ fn reference_at(
     if s[p] != 2 {
         return 0;
     }
-    element_at(s, w, n, at, fields, keys, index, p, d, 2 * w + 1)
+    element_at(s, w, n, at, fields, keys, index, p, d, w + (1 + w))
 }
 
 // Writes by place each submodel's model.
@@ -762,10 +758,10 @@ fn target_of(
     p: usize,
     d: u16,
 ) -> Found
-    requires { ⌜ Recorded (record { width = w; bytes = now s }) (now at) (now fields) (now keys) (now index) n p d × (Linked (record { width = w; bytes = now s }) (now model) (now sub) × ((getD (now s) p 0 ≡ 3) ⊎ (5 ≤ getD (now s) p 0))) ⌝ }
+    requires { ⌜ Recorded (record { width = w; bytes = now s }) (now at) (now fields) (now keys) (now index) n p d × (Linked (record { width = w; bytes = now s }) (now model) (now sub) × (pointerKind (getD (now s) p 0) ≡ true)) ⌝ }
     ensures { λ r. ⌜ r ≡ foundOf (namedBy (record { width = w; bytes = now (s .entry) }) p) ⌝ }
 {
-    let o = submodel_offset(s[p], w);
+    let o = recipe::submodel_offset(s[p], w);
     let f = field(s, p + 1 + (o + w + 1), w);
     if names::is_blank(field(s, p + 1 + o, w)) {
         return find_declared(s, w, n, at, fields, keys, index, 2, d, f);
@@ -795,7 +791,7 @@ fn next_at(
     ensures { λ r. ⌜ r ≡ nextLink (record { width = w; bytes = now (s .entry) }) p ⌝ }
 {
     let k = s[p];
-    if (k != 3) & (k < 5) {
+    if !recipe::is_pointer(k) {
         return 0;
     }
     place_of(target_of(s, w, n, at, fields, keys, index, model, sub, p, d))

@@ -11,7 +11,7 @@ use mathlib.Core.Option.{Option, Option·getD, Option·map, none, some}
 use mathlib.Core.Path.{_∙_, _≡_, ap, sym}
 use native.Mathlib.Omega.{arith}
 use Rattle.names.specs.Lists.{In, among, any}
-use Rattle.names.proofs.Lists.{any-in, any-cong, any-or, any-some}
+use Rattle.names.proofs.Lists.{any-in, any-cong, any-or, any-some, among-one, among-two}
 use Rattle.names.proofs.Tests.{and-left, and-right, both, both-ways, by-option, not-both, or-cases, or-left}
 use Rattle.recipe.specs.Definitions.{elementIn, holder}
 use Rattle.recipe.specs.Reading.{fault₅}
@@ -31,7 +31,6 @@ use Rattle.marks.specs.Marks.{aimsAt, from, isGone, isMarkedGone, owner,
 use Rattle.marks.proofs.Marks.{aim-in, aim-some, is-mark, mark-pointer, owner-in, pointer-place, pointer-placed}
 use Rattle.marks.proofs.Relations.{aimed-is, node-number}
 use Rattle.marks.proofs.Stamps.{Sort, sorts, stamps-by, stamps-mark, stamps-port}
-use Rattle.marks.proofs.Turn.{among-one, among-two}
 
 -- ---- which cells are one
 cell-owner : (n o : ℕ) → eqb (ownerCell n) (ownerCell o) ≡ eqb n o

@@ -3,7 +3,7 @@ pub mod Marks
 pub mod Chain
 pub mod Conflicts
 pub mod Survivors
-pub mod Classes
+pub mod IsGone
 pub mod Cells
 pub mod Stamps
 pub mod Relations

@@ -4,14 +4,14 @@ use Prim.Native.Nat.{_+_, _<_, _≤_, suc, zero, ℕ}
 use borrow.Author.Tests.{eq-eqb, eqb-false, eqb-true, le-leb, le-ltb, leb-true, lt-ltb, ltb-false, ltb-true}
 use lib.Dec.{eqb, leb, ltb}
 use lib.ListN.{replicate}
-use mathlib.Core.Bool.{Bool, _&&_, _||_, and-or-distrib-left, and-or-distrib-right, false, false≢true, or-false, true}
+use mathlib.Core.Bool.{Bool, _&&_, _||_, and-or-distrib-left, and-or-distrib-right, false, false≢true, or-false, true, and-false}
 use mathlib.Core.List.{List}
 use mathlib.Core.Logic.{⊎-elim}
 use mathlib.Core.Option.{none}
 use mathlib.Core.Path.{_∙_, _≡_, ap, refl, sym}
 use native.Mathlib.Omega.{arith}
 use Rattle.names.specs.Lists.{In, among, any}
-use Rattle.names.proofs.Tests.{and-false, and-left, and-right, apart, both, both-ways, by-cases, or-cases, or-left, or-right}
+use Rattle.names.proofs.Tests.{and-left, and-right, apart, both, both-ways, by-cases, or-cases, or-left, or-right}
 use Rattle.names.proofs.Lists.{among-any, any-cong, any-none, any-or}
 use Rattle.recipe.specs.Definitions.{holder}
 use Rattle.recipe.specs.Reading.{fault₅}

@@ -52,13 +52,13 @@ references R M G E r = record { listable = ready-listable R; judged = record { n
 
 module _ (s : Recipe) where
   -- the reference field of an element is in the recipe
-  pub reference-low : (p : ℕ) → In p (places s) → isElement s p ≡ true → p + 1 + (2 * s .width + 1) + s .width ≤ length (s .bytes)
+  pub reference-low : (p : ℕ) → In p (places s) → isElement s p ≡ true → p + 1 + (s .width + (1 + s .width)) + s .width ≤ length (s .bytes)
   unfolding next
   reference-low p i e =
       let k = element-kind s p e in
       omega (arith, readable-fits s p (readable s p i), length-three (s .width) (kind s p) (omega arith) (omega arith) (λ z. omega arith) (λ z. omega arith) (λ z. omega arith))
 
-  pub reference-is : (p : ℕ) → fieldAt (s .width) (s .bytes) (p + 1 + (2 * s .width + 1)) ≡ referenceField s p
+  pub reference-is : (p : ℕ) → fieldAt (s .width) (s .bytes) (p + 1 + (s .width + (1 + s .width))) ≡ referenceField s p
   unfolding referenceField field
   reference-is p = refl
 

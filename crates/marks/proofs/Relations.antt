@@ -4,14 +4,14 @@ use Prim.Native.Nat.{suc, ℕ}
 use borrow.Author.Tests.{eq-eqb, eqb-true, le-leb, leb-true, lt-leb, ne-eqb}
 use lib.Dec.{eqb, leb}
 use lib.ListN.{length}
-use mathlib.Core.Bool.{Bool, _&&_, false, true}
+use mathlib.Core.Bool.{Bool, _&&_, false, true, and-false}
 use mathlib.Core.List.{List, [], _++_, _∷_}
 use mathlib.Core.Logic.{inr}
 use mathlib.Core.Option.{none, some}
 use mathlib.Core.Path.{_∙_, _≡_, ap, refl, sym}
 use native.Mathlib.Omega.{arith}
 use Rattle.names.specs.Lists.{In, begins, same}
-use Rattle.names.proofs.Tests.{and-false, both-ways}
+use Rattle.names.proofs.Tests.{both-ways}
 use Rattle.recipe.specs.Reading.{fault₅}
 use Rattle.recipe.specs.Records.{Recipe, isReplacedBy}
 use Rattle.tree.specs.Faults.{fault₇, fault₈}

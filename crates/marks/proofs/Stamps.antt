@@ -13,6 +13,7 @@ use Rattle.names.proofs.Tests.{by-cases, or-cases}
 use Rattle.recipe.specs.Records.{Recipe, isDeletion, isMark, isPort, isReplacedBy, isReplacement, kind}
 use Rattle.tree.specs.Numbers.{number}
 use Rattle.tree.specs.Tree.{Node}
+use Rattle.names.proofs.Lists.{any-one, any-two}
 use Rattle.marks.specs.Cells.{aimNumber, asks, goneCell, markCell, ownerCell, portCell, stamps, within}
 use Rattle.marks.specs.Marks.{aimsAt, conflict, isAtOrBelow, marksClash, owner, ownerClash, portClash, portsClash, sameAim}
 use Rattle.marks.proofs.Cells.{gone-mark, gone-owner, gone-port, gone-port₂, mark-mark, mark-owner, mark-port, mark-port₂, nothing-within, owner-mark, owner-owner, owner-port, owner-port₂, port-mark, port-owner, port-port, port-port₂}
@@ -20,12 +21,6 @@ use Rattle.marks.proofs.Cells.{gone-mark, gone-owner, gone-port, gone-p
 or-last : (a b c : Bool) → a || b || c ≡ a || c || b
 or-last true b c = refl
 or-last false b c = or-comm b c
-
-pub any-one : {A : Type 0} (t : A → Bool) (x : A) → any t (x ∷ []) ≡ t x
-any-one t x = by-cases (t x) (λ e. rw (e, any)) (λ e. rw (e, any))
-
-pub any-two : {A : Type 0} (t : A → Bool) (x y : A) → any t (x ∷ y ∷ []) ≡ t x || t y
-any-two t x y = by-cases (t x) (λ e. rw (e, any)) (λ e. rw (e, any) (any-one t y))
 
 module _ (s : Recipe) where
   -- a mark or port is of one of three sorts

@@ -1,8 +1,8 @@
 -- The table of steps, filled mark by mark.
 -- Assumes nothing.
 use Prim.Native.Nat.{_*_, _+_, _<_, _≤_, ℕ}
-use borrow.Author.Tests.{eq-eqb, eqb-false, eqb-true, ne-eqb}
-use lib.Dec.{eqb, leb}
+use borrow.Author.Tests.{eqb-false, eqb-true, ne-eqb}
+use lib.Dec.{eqb}
 use lib.ListN.{getD, length, length-set, replicate, set}
 use lib.Seq.{getD-set-other, getD-set-same}
 use mathlib.Core.Bool.{_||_, false, true}
@@ -17,8 +17,9 @@ use Rattle.names.proofs.Tables.{getD-zeros}
 use Rattle.names.proofs.Tests.{and-left, and-right, both, by-cases, by-option, not-both, or-cases, or-left, or-right}
 use Rattle.recipe.specs.Definitions.{holder}
 use Rattle.recipe.specs.Reading.{fault₅}
-use Rattle.recipe.specs.Records.{Recipe, isDeletion, isMark, isPort, isReadable, isReplacedBy, isReplacement, kind, next, places}
-use Rattle.recipe.proofs.Going.{here, owning-kind}
+use Rattle.recipe.specs.Records.{Recipe, isDeletion, isMark, isPort, isReplacedBy, isReplacement, kind, next, places, replacedByKind, ownedKind}
+use Rattle.recipe.proofs.Bodies.{owned-kind}
+use Rattle.recipe.proofs.Going.{here}
 use Rattle.recipe.proofs.Reading.{next-more, place-low, places-between}
 use Rattle.tree.specs.Faults.{fault₇, fault₈}
 use Rattle.tree.specs.Numbers.{number}
@@ -233,13 +234,13 @@ module _ (s : Recipe) (hold rel own ord inst : List ℕ) (n : ℕ) (R : Ready s 
     unfolding isStep
     starts = own-step s hold rel own ord inst n R p here sort i k e o f d w (or-cases (isReplacement s p) (isReplacedBy s p) st)
 
-    kind-by : k ≡ 7 → isReplacedBy s p ≡ true
+    by-kind : isReplacedBy s p ≡ replacedByKind k
     unfolding isReplacedBy kind
-    kind-by z = eq-eqb (getD (s .bytes) p 0) 7 (sym (w .kind-is) ∙ z)
+    by-kind = ap replacedByKind (sym (w .kind-is))
 
-    kind-rep : (k ≡ 7 → ⊥) → isReplacedBy s p ≡ false
-    unfolding isReplacedBy kind
-    kind-rep z = ne-eqb (getD (s .bytes) p 0) 7 (λ y. z (w .kind-is ∙ y))
+    own-kind : ownedKind k ≡ true
+    unfolding isStep kind
+    own-kind = ap ownedKind (w .kind-is) ∙ (sym (owned-kind s p) ∙ st)
 
     -- what `put_step` requires
     pub step-fits : (f + e < 1024) × (f + o < 1024)
@@ -256,9 +257,9 @@ module _ (s : Recipe) (hold rel own ord inst : List ℕ) (n : ℕ) (R : Ready s 
     stepped-is : (go : List ℕ) → stepped go k (f + e) (f + o) ≡ set go (fromOf s this) (toOf s this)
     unfolding stepped fromOf toOf node
     stepped-is go =
-        by-cases (eqb k 7)
-        (λ z. rw (z, kind-by (eqb-true k 7 z), ends, starts))
-        (λ z. rw (z, kind-rep (eqb-false k 7 z), ends, starts))
+        by-cases (replacedByKind k)
+        (λ z. rw (z, by-kind ∙ z, ends, starts))
+        (λ z. rw (own-kind, z, by-kind ∙ z, ends, starts))
 
     from-low : (go : List ℕ) → length go ≡ 1024 → fromOf s this < length go
     unfolding fromOf node
@@ -291,13 +292,17 @@ module _ (s : Recipe) (hold rel own ord inst : List ℕ) (n : ℕ) (R : Ready s 
     pub stepped-length : (go go′ : List ℕ) → length go ≡ 1024 → go′ ≡ stepped go k (f + e) (f + o) → length go′ ≡ 1024
     stepped-length go go′ l q = ap length (q ∙ stepped-is go) ∙ length-set go (fromOf s this) (toOf s this) ∙ l
 
-pub stepped-by : (go : List ℕ) (k a b : ℕ) → k ≡ 7 → set go b (a + 1) ≡ stepped go k a b
+pub stepped-by : (go : List ℕ) (k a b : ℕ) → replacedByKind k ≡ true → set go b (a + 1) ≡ stepped go k a b
 unfolding stepped
-stepped-by go k a b h = rw (eq-eqb k 7 h)
+stepped-by go k a b h = rw h
 
-pub stepped-other : (go : List ℕ) (k a b : ℕ) → (k ≡ 7 → ⊥) → set go a (b + 1) ≡ stepped go k a b
+pub stepped-none : (go : List ℕ) (k a b : ℕ) → replacedByKind k ≡ false → ownedKind k ≡ false → go ≡ stepped go k a b
 unfolding stepped
-stepped-other go k a b h = rw (ne-eqb k 7 h)
+stepped-none go k a b h o = rw (o, h)
+
+pub stepped-other : (go : List ℕ) (k a b : ℕ) → replacedByKind k ≡ false → ownedKind k ≡ true → set go a (b + 1) ≡ stepped go k a b
+unfolding stepped
+stepped-other go k a b h o = rw (o, h)
 
 -- ---- record by record
 pub went-start : (s : Recipe) (m : ℕ) → Went s (λ q. q .place < 0) (replicate m 0)
@@ -318,6 +323,6 @@ went-end s hold rel own ord inst n R C p go l w x i =
     (went-same s C (R .declared) (R .small) (R .aims) (λ q. q .place < p) (λ q. Unit {0}) go (λ q j d. omega (arith, place-low s (q .place) (mark-place s q j))) (λ q j d. tt) w) x i
 
 -- a record that makes a step, by its kind
-pub step-kind : (s : Recipe) (p : ℕ) → isReadable s p ≡ true → isStep s p ≡ leb 6 (getD (s .bytes) p 0)
+pub step-kind : (s : Recipe) (p : ℕ) → isStep s p ≡ ownedKind (getD (s .bytes) p 0)
 unfolding isStep kind
-step-kind s p e = owning-kind s p e
+step-kind s p = owned-kind s p

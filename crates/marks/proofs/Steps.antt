@@ -3,14 +3,14 @@
 use Prim.Native.Nat.{_<_, suc, ℕ}
 use borrow.Author.Tests.{eq-eqb, lt-ltb}
 use mathlib.Core.Bool.{_&&_, _||_, false, true}
-use mathlib.Core.List.{_++_}
+use mathlib.Core.List.{_++_, append-cancel-right}
 use mathlib.Core.Option.{none, some}
 use mathlib.Core.Path.{_∙_, _≡_, ap, sym}
 use native.Mathlib.Decide.{decLe}
 use native.Mathlib.Omega.{arith}
 use Rattle.names.specs.Lists.{In, any, first}
 use Rattle.names.specs.Names.{text}
-use Rattle.names.proofs.Lists.{none-first, not-any, same-refl, some-first, append-cancel}
+use Rattle.names.proofs.Lists.{none-first, not-any, same-refl, some-first}
 use Rattle.names.proofs.Tests.{and-left, and-right, both, by-option, not-both, or-right, the-some}
 use Rattle.recipe.specs.Definitions.{holder, isDeclared, ownerOf}
 use Rattle.recipe.specs.Reading.{fault₄, fault₅, repeats, shareNames}
@@ -45,7 +45,7 @@ module _ (s : Recipe) (h₄ : fault₄ s ≡ none) (h₅ : fault₅ s ≡ none) 
       let v : t .0 ≡ u .0 = the-some (sym (t .1) ∙ ap (target s) place ∙ u .1) in
       let w : q .path ++ t .0 .path ≡ r .path ++ t .0 .path =
       ap (λ (n : Node). n .path) (sym (t .2) ∙ u .2) ∙ ap (λ (n : Node). r .path ++ n .path) (sym v) in
-      node-eq {x = q} {y = r} (append-cancel (q .path) (r .path) (t .0 .path) w) place
+      node-eq {x = q} {y = r} (append-cancel-right (q .path) (r .path) (t .0 .path) w) place
 
   -- a replaced-by's owner is no mark's target
   pub owner-free : (q r x : Node) → In q (treeMarks s) → In r (treeMarks s) → isReplacement s (q .place) ≡ true → isReplacedBy s (r .place) ≡ true

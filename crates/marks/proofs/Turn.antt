@@ -12,10 +12,11 @@ use mathlib.Core.Option.{none, some}
 use mathlib.Core.Path.{_∙_, _≡_, ap, sym}
 use native.Mathlib.Omega.{arith}
 use Rattle.names.specs.Lists.{In, among, any}
-use Rattle.names.proofs.Lists.{getD-in}
-use Rattle.names.proofs.Tests.{by-cases, or-left, or-right}
+use Rattle.names.proofs.Lists.{getD-in, among-one, among-two}
+use Rattle.names.proofs.Tests.{by-cases, not-both, or-cases, or-left, or-right}
 use Rattle.recipe.specs.Definitions.{holder, main, ownerOf}
-use Rattle.recipe.specs.Records.{Recipe, isMark, isPort, isReplacedBy, isReplacement, kind, next, places}
+use Rattle.recipe.specs.Records.{Recipe, portKind, replacedByKind, markKind, pointerKind, isMark, isPort, isReplacedBy, isReplacement, kind, next, places}
+use Rattle.recipe.proofs.Bodies.{pointer-kind}
 use Rattle.recipe.proofs.Definitions.{in-elements}
 use Rattle.recipe.proofs.Going.{here}
 use Rattle.recipe.proofs.Reading.{place-low}
@@ -71,13 +72,11 @@ set-cell t a c h =
 pub stamped-length : (i k e o f d : ℕ) (t t′ : List ℕ) → t′ ≡ stamped t k (f + e) (f + o) d → length t ≡ 12288 → length t′ ≡ 12288
 unfolding stamped
 stamped-length i k e o f d t t′ q l =
-    ap length q ∙ by-cases (eqb k 3) (λ a. rw a (simp length-set l)) (λ a. by-cases (eqb k 7) (λ b. rw (a, b) (simp length-set l)) (λ b. rw (a, b) (simp length-set l)))
-
-pub among-one : (c x : ℕ) → among c (x ∷ []) ≡ eqb c x
-among-one c x = by-cases (eqb c x) (λ e. rw (e, among)) (λ e. rw (e, among))
-
-pub among-two : (c x y : ℕ) → among c (x ∷ y ∷ []) ≡ eqb c x || eqb c y
-among-two c x y = by-cases (eqb c x) (λ e. rw (e, among)) (λ e. rw (e, among) (among-one c y))
+    ap length q
+    ∙ by-cases (portKind k) (λ a. rw a (simp length-set l))
+    (λ a.
+    by-cases (replacedByKind k) (λ b. rw (a, b) (simp length-set l))
+    (λ b. by-cases (markKind k) (λ m. rw (a, m, b) (simp length-set l)) (λ m. rw (a, m, b) l)))
 
 -- the record at p, in the instance at the path z, conflicts with an earlier one
 abbrev pub clash : Recipe → ℕ → List ℕ → Bool
@@ -161,16 +160,22 @@ module _ (s : Recipe) (hold rel own ord inst : List ℕ) (n : ℕ) (R : Ready s 
         let x = from (path i) (a .0) in
         omega (arith, aim-eq, aimed-is s (it i) x (a .1), number-few s (R .small) x (aim-in s (R .small) (it i) x ptr (a .1)))
 
-    by-is : k ≡ 7 → isReplacedBy s p ≡ true
+    by-is : replacedByKind k ≡ true → isReplacedBy s p ≡ true
     unfolding isReplacedBy kind
-    by-is h = eq-eqb (getD (s .bytes) p 0) 7 (sym (w .kind-is) ∙ h)
+    by-is h = ap replacedByKind (sym (w .kind-is)) ∙ h
 
-    own-few : k ≡ 7 → f + o < 1024
+    mark-is : portKind k ≡ false → markKind k ≡ true
+    unfolding kind
+    mark-is n =
+        ⊎-elim (λ (m : markKind k ≡ true). m) (λ (m : portKind k ≡ true). not-both m n)
+        (or-cases (markKind k) (portKind k) (ap pointerKind (w .kind-is) ∙ (sym (pointer-kind s p) ∙ sort)))
+
+    own-few : replacedByKind k ≡ true → f + o < 1024
     unfolding node
     own-few h = omega (arith, own-eq (by-is h), number-few s (R .small) (owner s (it i)) (owner-in s (R .declared) (it i) ptr (inr (by-is h))))
 
     -- what `meets_any` and `stamp` require
-    pub fits : (f + e < 1024) × ((d ≤ 4) × (k ≡ 7 → f + o < 1024))
+    pub fits : (f + e < 1024) × ((d ≤ 4) × (replacedByKind k ≡ true → f + o < 1024))
     unfolding node
     fits = (aim-few, (omega (arith, depth-eq, depth s (R .small) (path i) (instance-in i (w .holds .0))), own-few))
 
@@ -180,44 +185,44 @@ module _ (s : Recipe) (hold rel own ord inst : List ℕ) (n : ℕ) (R : Ready s 
     meets-law t h =
         let Q = query s (R .declared) (R .small) (R .aims) p t h (it i) (it-in i (w .holds)) in
         let K = w .kind-is in
-        by-cases (eqb k 3)
+        by-cases (portKind k)
         (λ a. rw (a, aim-eq, depth-eq) (sym (Q _ _ _ _ (λ c. rw (sym K, a)))))
-        (λ a. by-cases (eqb k 7)
-        (λ b. rw (a, b, own-eq (by-is (eqb-true k 7 b)), aim-eq, depth-eq) (sym (Q _ _ _ _ (λ c. rw (sym K, a, b)))))
-        (λ b. rw (a, b, aim-eq, depth-eq) (sym (Q _ _ _ _ (λ c. rw (sym K, a, b))))))
+        (λ a. by-cases (replacedByKind k)
+        (λ b. rw (a, b, own-eq (by-is b), aim-eq, depth-eq) (sym (Q _ _ _ _ (λ c. rw (sym K, a, b)))))
+        (λ b. rw (a, mark-is a, b, aim-eq, depth-eq) (sym (Q _ _ _ _ (λ c. rw (sym K, a, b))))))
 
     -- and the cells set are its stamps
-    stamps-port : eqb k 3 ≡ true → stamps s (it i) ≡ (12 * (f + e) + (6 + d)) ∷ []
+    stamps-port : portKind k ≡ true → stamps s (it i) ≡ (12 * (f + e) + (6 + d)) ∷ []
     unfolding stamps isPort kind node portCell
     stamps-port a = rw (sym (w .kind-is), a, aim-eq, depth-eq)
 
-    stamps-by : eqb k 3 ≡ false → eqb k 7 ≡ true → stamps s (it i) ≡ (12 * (f + e) + (5 - d)) ∷ (12 * (f + o)) ∷ []
+    stamps-by : portKind k ≡ false → replacedByKind k ≡ true → stamps s (it i) ≡ (12 * (f + e) + (5 - d)) ∷ (12 * (f + o)) ∷ []
     unfolding stamps isPort isReplacedBy kind node markCell ownerCell
-    stamps-by a b = rw (sym (w .kind-is), a, b, own-eq (by-is (eqb-true k 7 b)), aim-eq, depth-eq)
+    stamps-by a b = rw (sym (w .kind-is), a, b, own-eq (by-is b), aim-eq, depth-eq)
 
-    stamps-other : eqb k 3 ≡ false → eqb k 7 ≡ false → stamps s (it i) ≡ (12 * (f + e) + (5 - d)) ∷ (12 * (f + e) + 11) ∷ []
+    stamps-other : portKind k ≡ false → replacedByKind k ≡ false → stamps s (it i) ≡ (12 * (f + e) + (5 - d)) ∷ (12 * (f + e) + 11) ∷ []
     unfolding stamps isPort isReplacedBy kind node markCell goneCell
     stamps-other a b = rw (sym (w .kind-is), a, b, aim-eq, depth-eq)
 
     pub stamped-law : (t : List ℕ) (c : ℕ) → length t ≡ 12288 → isSet (stamped t k (f + e) (f + o) d) c ≡ isSet t c || among c (stamps s (it i))
     stamped-law t c l =
         let F = fits in
-        by-cases (eqb k 3)
+        by-cases (portKind k)
         (λ a.
-        rw (← stamped-port t k (f + e) (f + o) d (eqb-true k 3 a), stamps-port a)
+        rw (← stamped-port t k (f + e) (f + o) d a, stamps-port a)
         (set-cell t (12 * (f + e) + (6 + d)) c (omega arith) ∙ ap (λ (b : Bool). isSet t c || b) (sym (among-one c (12 * (f + e) + (6 + d))))))
-        (λ a. by-cases (eqb k 7)
+        (λ a. by-cases (replacedByKind k)
         (λ b.
-        let O = F .1 .1 (eqb-true k 7 b) in
+        let O = F .1 .1 b in
         let T = set t (12 * (f + e) + (5 - d)) 1 in
-        rw (← stamped-by t k (f + e) (f + o) d (eqb-false k 3 a) (eqb-true k 7 b), stamps-by a b)
+        rw (← stamped-by t k (f + e) (f + o) d a b, stamps-by a b)
         (set-cell T (12 * (f + o)) c (omega (arith, length-set t (12 * (f + e) + (5 - d)) 1))
         ∙ ap (λ (z : Bool). z || eqb c (12 * (f + o))) (set-cell t (12 * (f + e) + (5 - d)) c (omega arith))
         ∙ or-assoc (isSet t c) (eqb c (12 * (f + e) + (5 - d))) (eqb c (12 * (f + o)))
         ∙ ap (λ (z : Bool). isSet t c || z) (sym (among-two c (12 * (f + e) + (5 - d)) (12 * (f + o))))))
         (λ b.
         let T = set t (12 * (f + e) + (5 - d)) 1 in
-        rw (← stamped-other t k (f + e) (f + o) d (eqb-false k 3 a) (eqb-false k 7 b), stamps-other a b)
+        rw (← stamped-other t k (f + e) (f + o) d a (mark-is a) b, stamps-other a b)
         (set-cell T (12 * (f + e) + 11) c (omega (arith, length-set t (12 * (f + e) + (5 - d)) 1))
         ∙ ap (λ (z : Bool). z || eqb c (12 * (f + e) + 11)) (set-cell t (12 * (f + e) + (5 - d)) c (omega arith))
         ∙ or-assoc (isSet t c) (eqb c (12 * (f + e) + (5 - d))) (eqb c (12 * (f + e) + 11))

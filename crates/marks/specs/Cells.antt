@@ -10,7 +10,7 @@ use mathlib.Core.Path.{_≡_}
 use Rattle.names.specs.Lists.{In, among, any}
 use Rattle.recipe.specs.Definitions.{holder, ownerOf}
 use Rattle.recipe.specs.Reading.{fault₅}
-use Rattle.recipe.specs.Records.{Recipe, isElement, isPort, isReplacedBy, isReplacement, places, stop}
+use Rattle.recipe.specs.Records.{Recipe, isElement, isPort, isReplacedBy, isReplacement, places, stop, portKind, replacedByKind, markKind}
 use Rattle.tree.specs.Faults.{fault₇, fault₈}
 use Rattle.tree.specs.Numbers.{Instances, number, order, reach}
 use Rattle.tree.specs.Tree.{Node}
@@ -93,13 +93,13 @@ pub record Ready (s : Recipe) (hold rel own ord inst : List ℕ) (n : ℕ) : Typ
 -- a cell that a record of kind k asks is set: e its target's number, o its owner's, d its depth
 unfoldable pub meets : List ℕ → ℕ → ℕ → ℕ → ℕ → Bool
 meets t k e o d =
-    cond (eqb k 3) (anySet t (12 * e) (6 - d) || anySet t (portCell e d) 1)
-    (cond (eqb k 7) (anySet t (12 * e) (7 + d) || anySet t (12 * o + 1) 10)
-    (anySet t (12 * e) (7 + d) || anySet t 0 0))
+    cond (portKind k) (anySet t (12 * e) (6 - d) || anySet t (portCell e d) 1)
+    (cond (replacedByKind k) (anySet t (12 * e) (7 + d) || anySet t (12 * o + 1) 10)
+    (cond (markKind k) (anySet t (12 * e) (7 + d) || anySet t 0 0) false))
 
 -- its cells set
 unfoldable pub stamped : List ℕ → ℕ → ℕ → ℕ → ℕ → List ℕ
 stamped t k e o d =
-    cond (eqb k 3) (set t (portCell e d) 1)
-    (cond (eqb k 7) (set (set t (markCell e d) 1) (ownerCell o) 1)
-    (set (set t (markCell e d) 1) (goneCell e) 1))
+    cond (portKind k) (set t (portCell e d) 1)
+    (cond (replacedByKind k) (set (set t (markCell e d) 1) (ownerCell o) 1)
+    (cond (markKind k) (set (set t (markCell e d) 1) (goneCell e) 1) t))

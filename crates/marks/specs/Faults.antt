@@ -3,12 +3,15 @@
 use Prim.Native.Nat.{ℕ}
 use mathlib.Core.Bool.{Bool, cond, not, _&&_}
 use mathlib.Core.Option.{Option, none, some}
+use mathlib.Core.List.{List, [], _∷_}
 use lib.Dec.{ltb, eqb}
 use Rattle.names.specs.Lists.{any, first, holds}
 use Rattle.names.specs.Names.{isBlank}
+use Rattle.names.specs.Judging.{Row, row}
 use Rattle.flat_table.specs.Classes.{referenceAllowed}
 use Rattle.recipe.specs.Records.{Recipe, isReplacedBy, places, class, referenceField}
 use Rattle.tree.specs.Tree.{Node, nodes, referenceOf}
+use Rattle.tree.specs.Faults.{fault₁₀}
 use Rattle.marks.specs.Marks.{treePointers, aim, isGone, survivors, chainEnd, conflict}
 
 -- row 9: "conflict with an earlier record", somewhere in the tree, of the record at p
@@ -42,3 +45,11 @@ isReferenceFault s x =
 -- row 12, at the element record of such a survivor
 unfoldable pub fault₁₂ : Recipe → Option ℕ
 fault₁₂ s = first (λ p. any (λ x. eqb (x .place) p && isReferenceFault s x) (survivors s)) (places s)
+
+-- rows 9 to 11 in the order of judging, which look at the marks
+abbrev pub markRows : Recipe → List Row
+markRows s = row 9 (fault₉ s) ∷ row 10 (fault₁₀ s) ∷ row 11 (fault₁₁ s) ∷ []
+
+-- and row 12, which looks at the references
+abbrev pub referenceRows : Recipe → List Row
+referenceRows s = row 12 (fault₁₂ s) ∷ []

@@ -2,10 +2,10 @@
 -- Assumes nothing.
 use Prim.Native.Nat.{ℕ, zero, suc}
 use mathlib.Core.Path.{_≡_}
-use mathlib.Core.Bool.{Bool, not, _&&_, _||_}
+use mathlib.Core.Bool.{Bool, true, not, _&&_, _||_}
 use mathlib.Core.Option.{Option, none, some, Option·map}
 use mathlib.Core.List.{List, _++_}
-use Rattle.names.specs.Lists.{keep, any, first, holds, same, begins}
+use Rattle.names.specs.Lists.{In, keep, any, first, holds, same, begins}
 use Rattle.recipe.specs.Records.{Recipe, isPort, isDeletion, isReplacement, isReplacedBy, isMark}
 use Rattle.recipe.specs.Definitions.{ownerOf}
 use Rattle.tree.specs.Tree.{Node, node, sameNode, nodes, target, treeElements, parentOf}
@@ -50,7 +50,13 @@ removes s x r = (isDeletion s (r .place) || isReplacement s (r .place)) && aimsA
 unfoldable pub replaces : Recipe → Node → Node → Bool
 replaces s x r = isReplacement s (r .place) && aimsAt s r x
 
--- "the target of a deletion or replacement, the owner of a replaced-by"
+-- "An element is gone if it is the target of a deletion or replacement, the owner of a replaced-by, or a child of a gone element"
+pub data Gone (s : Recipe) : Node → Type 0 where
+  removed : {x : Node} (r : Node) → In r (treeMarks s) → removes s x r ≡ true → Gone s x
+  owns : {x : Node} (r : Node) → In r (treeMarks s) → ownsBy s x r ≡ true → Gone s x
+  child : {x y : Node} → parentOf s x ≡ some y → Gone s y → Gone s x
+
+-- the same as tests, which `proofs/IsGone.antt` shows: "the target of a deletion or replacement, the owner of a replaced-by"
 unfoldable pub isMarkedGone : Recipe → Node → Bool
 isMarkedGone s x = any (λ r. removes s x r || ownsBy s x r) (treeMarks s)
 

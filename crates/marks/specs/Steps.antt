@@ -1,7 +1,6 @@
 -- The chain's steps in numbers: of each element one more than the number of the next, or 0.
 -- Assumes nothing.
 use Prim.Native.Nat.{_+_, ℕ}
-use lib.Dec.{eqb}
 use lib.ListN.{getD, set}
 use mathlib.Core.Bool.{Bool, _||_, cond, true}
 use mathlib.Core.List.{List}
@@ -9,7 +8,7 @@ use mathlib.Core.Option.{none, some}
 use mathlib.Core.Path.{_≡_}
 use Rattle.names.specs.Lists.{In}
 use Rattle.recipe.specs.Reading.{fault₃, fault₄, fault₆}
-use Rattle.recipe.specs.Records.{Recipe, isReplacedBy, isReplacement}
+use Rattle.recipe.specs.Records.{Recipe, replacedByKind, ownedKind, isReplacedBy, isReplacement}
 use Rattle.tree.specs.Numbers.{number}
 use Rattle.tree.specs.Tree.{Node, treeElements}
 use Rattle.marks.specs.Cells.{aimNumber}
@@ -45,7 +44,7 @@ stepOf s x = elim (step s x) [ none ↦ 0 | some y ↦ number s y + 1 ]
 
 -- what one mark of kind k stores: a its target's number, b its owner's
 unfoldable pub stepped : List ℕ → ℕ → ℕ → ℕ → List ℕ
-stepped go k a b = cond (eqb k 7) (set go b (a + 1)) (set go a (b + 1))
+stepped go k a b = cond (replacedByKind k) (set go b (a + 1)) (cond (ownedKind k) (set go a (b + 1)) go)
 
 -- the table has the step of each element of the tree
 abbrev pub StepsAre : Recipe → List ℕ → Type 0

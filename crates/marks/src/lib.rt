@@ -9,7 +9,7 @@ ghost use lib.ListN.{length, getD, replicate};
 ghost use Rattle.names.specs.Lists.{In};
 ghost use Rattle.names.specs.Names.{isBlank};
 ghost use Rattle.names.specs.Scans.{foundOf};
-ghost use Rattle.recipe.specs.Records.{Recipe, places, isElement, isMark, isPort, isReplacedBy, next, referenceField};
+ghost use Rattle.recipe.specs.Records.{Recipe, places, isElement, isMark, isPort, isReplacedBy, next, referenceField, replacedByKind};
 ghost use Rattle.recipe.specs.Reading.{fault₅};
 ghost use Rattle.tree.specs.Tree.{Node, treeElements};
 ghost use Rattle.tree.specs.Faults.{fault₇};
@@ -29,7 +29,7 @@ fn entry(t: &[u16; 16384], i: usize) -> usize
     ensures { λ r. ⌜ (i < 16384 → r ≡ getD (now (t .entry)) i 0) × (r < 65536) ⌝ }
 {
     if i < 16384 {
-        return tree::wide(t[i]);
+        return recipe::wide(t[i]);
     }
     0
 }
@@ -53,19 +53,22 @@ fn any_set(t: &[u8; 12288], a: usize, n: usize) -> bool
 
 // A cell that a record of kind k asks is set: e is its target's number, o its owner's, d its depth.
 fn meets_any(t: &[u8; 12288], k: u8, e: usize, o: usize, d: usize) -> bool
-    requires { ⌜ (e < 1024) × ((d ≤ 4) × (k ≡ 7 → o < 1024)) ⌝ }
+    requires { ⌜ (e < 1024) × ((d ≤ 4) × (replacedByKind k ≡ true → o < 1024)) ⌝ }
     ensures { λ r. ⌜ r ≡ meets (now (t .entry)) k e o d ⌝ }
 {
-    if k == 3 {
+    if recipe::is_port(k) {
         if any_set(t, 12 * e, 6 - d) {
             return true;
         }
         return any_set(t, 12 * e + (6 + d), 1);
     }
+    if !recipe::is_mark(k) {
+        return false;
+    }
     if any_set(t, 12 * e, 7 + d) {
         return true;
     }
-    if k == 7 {
+    if recipe::is_replaced_by(k) {
         return any_set(t, 12 * o + 1, 10);
     }
     false
@@ -73,15 +76,18 @@ fn meets_any(t: &[u8; 12288], k: u8, e: usize, o: usize, d: usize) -> bool
 
 // Sets the cells of a record.
 fn stamp(t: &mut [u8; 12288], k: u8, e: usize, o: usize, d: usize)
-    requires { ⌜ (e < 1024) × ((d ≤ 4) × (k ≡ 7 → o < 1024)) ⌝ }
+    requires { ⌜ (e < 1024) × ((d ≤ 4) × (replacedByKind k ≡ true → o < 1024)) ⌝ }
     ensures { λ _. ⌜ now (t .exit) ≡ stamped (now (t .entry)) k e o d ⌝ }
 {
-    if k == 3 {
+    if recipe::is_port(k) {
         t[12 * e + (6 + d)] = 1;
         return;
     }
+    if !recipe::is_mark(k) {
+        return;
+    }
     t[12 * e + (5 - d)] = 1;
-    if k == 7 {
+    if recipe::is_replaced_by(k) {
         t[12 * o] = 1;
         return;
     }
@@ -106,13 +112,13 @@ fn conflicts_at(
 {
     let k = s[p];
     let h = hold[p];
-    let e = tree::wide(rel[p]);
-    let o = entry(ord, tree::wide(own[p]));
+    let e = recipe::wide(rel[p]);
+    let o = entry(ord, recipe::wide(own[p]));
     let mut i = 0;
     while i < n {
         if inst[5 * i] == h {
-            let f = tree::wide(inst[5 * i + 2]);
-            let d = tree::wide(inst[5 * i + 1]);
+            let f = recipe::wide(inst[5 * i + 2]);
+            let d = recipe::wide(inst[5 * i + 1]);
             if meets_any(t, k, f + e, f + o, d) {
                 return true;
             }
@@ -142,13 +148,13 @@ fn enter_at(
 {
     let k = s[p];
     let h = hold[p];
-    let e = tree::wide(rel[p]);
-    let o = entry(ord, tree::wide(own[p]));
+    let e = recipe::wide(rel[p]);
+    let o = entry(ord, recipe::wide(own[p]));
     let mut i = 0;
     while i < n {
         if inst[5 * i] == h {
-            let f = tree::wide(inst[5 * i + 2]);
-            let d = tree::wide(inst[5 * i + 1]);
+            let f = recipe::wide(inst[5 * i + 2]);
+            let d = recipe::wide(inst[5 * i + 1]);
             stamp(t, k, f + e, f + o, d);
             i += 1;
         } else {
@@ -175,7 +181,7 @@ pub fn first_conflict(
     let mut p = 0;
     while p < s.len() {
         let k = s[p];
-        if (k == 3) | (k >= 5) {
+        if recipe::is_pointer(k) {
             if conflicts_at(s, w, p, hold, rel, own, ord, inst, n, t) {
                 return Found::At(p);
             }
@@ -193,8 +199,11 @@ fn put_step(go: &mut [u16; 1024], k: u8, a: usize, b: usize)
     requires { ⌜ (a < 1024) × (b < 1024) ⌝ }
     ensures { λ _. ⌜ now (go .exit) ≡ stepped (now (go .entry)) k a b ⌝ }
 {
-    if k == 7 {
+    if recipe::is_replaced_by(k) {
         go[b] = (a + 1) as u16;
+        return;
+    }
+    if !recipe::is_owned(k) {
         return;
     }
     go[a] = (b + 1) as u16;
@@ -218,13 +227,13 @@ fn steps_at(
 {
     let k = s[p];
     let h = hold[p];
-    let e = tree::wide(rel[p]);
-    let o = entry(ord, tree::wide(own[p]));
+    let e = recipe::wide(rel[p]);
+    let o = entry(ord, recipe::wide(own[p]));
     let mut i = 0;
     while i < n {
         if inst[5 * i] == h {
-            let f = tree::wide(inst[5 * i + 2]);
-            let d = tree::wide(inst[5 * i + 1]);
+            let f = recipe::wide(inst[5 * i + 2]);
+            let d = recipe::wide(inst[5 * i + 1]);
             put_step(go, k, f + e, f + o);
             i += 1;
         } else {
@@ -251,7 +260,7 @@ pub fn fill_steps(
     let mut p = 0;
     while p < s.len() {
         let k = s[p];
-        if k >= 6 {
+        if recipe::is_owned(k) {
             steps_at(s, w, p, hold, rel, own, ord, inst, n, go);
             p += recipe::record_length(k, w);
         } else {
@@ -290,12 +299,12 @@ pub fn is_gone(
     if is_marked(t, e) {
         return true;
     }
-    let m = tree::wide(par[q]);
+    let m = recipe::wide(par[q]);
     if m == 0 {
         return false;
     }
-    let a = tree::wide(ord[q]);
-    let b = tree::wide(ord[m]);
+    let a = recipe::wide(ord[q]);
+    let b = recipe::wide(ord[m]);
     is_marked(t, e - a + b)
 }
 
@@ -307,7 +316,7 @@ pub fn chain_end(s: &[u8], w: usize, e: usize, go: &[u16; 1024]) -> usize
     let mut z = e;
     let mut n = 5usize;
     while n > 0 {
-        let y = tree::wide(go[z]);
+        let y = recipe::wide(go[z]);
         if y == 0 {
             return z;
         }
@@ -336,12 +345,12 @@ fn aims_at_gone(
     ensures { λ r. ⌜ r ≡ aimsAtGone (record { width = w; bytes = now (s .entry) }) p ⌝ }
 {
     let h = hold[p];
-    let e = tree::wide(rel[p]);
-    let q = tree::wide(aims[p]);
+    let e = recipe::wide(rel[p]);
+    let q = recipe::wide(aims[p]);
     let mut i = 0;
     while i < n {
         if inst[5 * i] == h {
-            let f = tree::wide(inst[5 * i + 2]);
+            let f = recipe::wide(inst[5 * i + 2]);
             if is_gone(s, w, f + e, q, ord, par, t) {
                 return true;
             }
@@ -373,7 +382,7 @@ pub fn first_lost(
     let mut p = 0;
     while p < s.len() {
         let k = s[p];
-        if k == 7 {
+        if recipe::is_replaced_by(k) {
             if aims_at_gone(s, w, p, hold, rel, own, ord, inst, n, aims, par, t) {
                 return Found::At(p);
             }
@@ -401,11 +410,11 @@ fn elements_at(
     ensures { λ _. ⌜ Listed (record { width = w; bytes = now (s .entry) }) (λ x. x .place < next (record { width = w; bytes = now (s .entry) }) p) (now (place .exit)) (now (within .exit)) × ((length (now (place .exit)) ≡ 1024) × (length (now (within .exit)) ≡ 1024)) ⌝ }
 {
     let h = hold[p];
-    let o = tree::wide(ord[p]);
+    let o = recipe::wide(ord[p]);
     let mut i = 0;
     while i < n {
         if inst[5 * i] == h {
-            let e = tree::wide(inst[5 * i + 2]) + o;
+            let e = recipe::wide(inst[5 * i + 2]) + o;
             place[e] = p as u16;
             within[e] = i as u16;
             i += 1;
@@ -446,7 +455,7 @@ fn refers_to_none(s: &[u8], w: usize, p: usize) -> bool
     requires { ⌜ (w ≤ 65536) × ((length (now s) ≤ 16384) × (In p (places (record { width = w; bytes = now s })) × (isElement (record { width = w; bytes = now s }) p ≡ true))) ⌝ }
     ensures { λ r. ⌜ r ≡ isBlank (referenceField (record { width = w; bytes = now (s .entry) }) p) ⌝ }
 {
-    let a = p + 1 + (2 * w + 1);
+    let a = p + 1 + (w + (1 + w));
     let b = a + w;
     names::is_blank(&s[a..b])
 }
@@ -465,7 +474,7 @@ fn is_unfit(
     requires { ⌜ Marked (record { width = w; bytes = now s }) (now t) (now ord) (now par) × (PlacesAre (record { width = w; bytes = now s }) (now place) × Numbers (record { width = w; bytes = now s }) z) ⌝ }
     ensures { λ r. ⌜ UnfitAt (record { width = w; bytes = now (s .entry) }) c z r ⌝ }
 {
-    let q = tree::wide(place[z]);
+    let q = recipe::wide(place[z]);
     let gone = is_gone(s, w, z, q, ord, par, t);
     gone | !flat_table::reference_allowed(c, s[q + 1 + w])
 }
@@ -490,11 +499,11 @@ fn refers_wrongly(
     if refers_to_none(s, w, p) {
         return !flat_table::reference_may_be_blank(c);
     }
-    let q = tree::wide(refs[p]);
+    let q = recipe::wide(refs[p]);
     if q == 0 {
         return true;
     }
-    let y = f + tree::wide(ord[q]);
+    let y = f + recipe::wide(ord[q]);
     let z = chain_end(s, w, y, go);
     is_unfit(s, w, c, z, ord, par, t, place)
 }
@@ -518,11 +527,11 @@ fn misreferred_at(
     ensures { λ r. ⌜ r ≡ misrefers (record { width = w; bytes = now (s .entry) }) p ⌝ }
 {
     let h = hold[p];
-    let o = tree::wide(ord[p]);
+    let o = recipe::wide(ord[p]);
     let mut i = 0;
     while i < n {
         if inst[5 * i] == h {
-            let f = tree::wide(inst[5 * i + 2]);
+            let f = recipe::wide(inst[5 * i + 2]);
             let gone = is_gone(s, w, f + o, p, ord, par, t);
             let wrong = refers_wrongly(s, w, p, f, ord, refs, par, t, go, place);
             if !gone & wrong {

@@ -1,10 +1,10 @@
 -- How the number of a name is computed, and that such keys, or none, change no answer. Assumes nothing.
-use mathlib.Core.Path.{_≡_, refl, sym, ap, _∙_}
+use mathlib.Core.Path.{_≡_, sym, ap, _∙_}
 use mathlib.Core.Bool.{false}
-use mathlib.Core.List.{List, [], _∷_}
-use Prim.Native.Nat.{ℕ, zero, suc, _+_, _-_, _/_, _%_, _<_, _≤_}
+use mathlib.Core.List.{List, _∷_}
+use Prim.Native.Nat.{ℕ, suc, _+_, _-_, _/_, _%_, _<_, _≤_}
 use native.Mathlib.Omega.{arith}
-use lib.ListN.{length, getD}
+use lib.ListN.{length}
 use lib.Dec.{eqb, ltb}
 use borrow.Author.Tests.{eq-eqb, ne-eqb, lt-ltb, le-ltb}
 use Rattle.names.specs.Lists.{same, isSome}
@@ -12,7 +12,7 @@ use Rattle.names.specs.Scans.{scan}
 use Rattle.names.specs.Order.{before}
 use Rattle.name_index.specs.declared.Layout.{Layout}
 use Rattle.name_index.specs.Hash.{fourAt, mixed, mixedFrom, hashOf}
-use Rattle.name_index.specs.Index.{nameOf, keyedName, Hashed, insert, ordered, isRepeat}
+use Rattle.name_index.specs.Index.{nameOf, keyedName, Hashed, isRepeat}
 use Rattle.names.proofs.Tests.{by-cases}
 use Rattle.names.proofs.Lists.{same-true}
 use Rattle.names.proofs.Scans.{scan-same}
@@ -93,20 +93,3 @@ module _ (keys s : List ℕ) (l : Layout) (n : ℕ) (h : Hashed keys (nameOf s l
   -- and so is a repeat
   pub repeats-hashed : scan (isRepeat (keyedName keys s l)) n ≡ scan (isRepeat (nameOf s l)) n
   repeats-hashed = scan-same (isRepeat (keyedName keys s l)) (isRepeat (nameOf s l)) n repeat-hashed
-
--- ---- all keys the same: the order of the names alone
-module _ (keys s : List ℕ) (l : Layout) (h : (p : ℕ) → getD keys p 0 ≡ 0) where
-  insert-plain : (p : ℕ) (xs : List ℕ) → insert (keyedName keys s l) p xs ≡ insert (nameOf s l) p xs
-  unfolding insert
-  insert-plain p [] = refl
-  insert-plain p (q ∷ qs) =
-      let e : before (keyedName keys s l p) (keyedName keys s l q) ≡ before (nameOf s l p) (nameOf s l q) =
-      sym (before-name (nameOf s l p) (nameOf s l q) (h p ∙ sym (h q))) in
-      by-cases (before (nameOf s l p) (nameOf s l q))
-      (λ b. rw (e, b))
-      (λ b. rw (e, b) (ap (λ (r : List ℕ). q ∷ r) (insert-plain p qs)))
-
-  pub ordered-plain : (from n : ℕ) → ordered (keyedName keys s l) from n ≡ ordered (nameOf s l) from n
-  unfolding ordered
-  ordered-plain from zero = refl
-  ordered-plain from (suc n) = insert-plain (from + n) (ordered (keyedName keys s l) from n) ∙ ap (insert (nameOf s l) (from + n)) (ordered-plain from n)

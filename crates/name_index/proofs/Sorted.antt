@@ -16,7 +16,7 @@ use Rattle.names.specs.Order.{before}
 use Rattle.name_index.specs.Index.{insert, ordered, Below}
 use Rattle.name_index.specs.Steps.{between, merged}
 use Rattle.names.proofs.Tests.{by-cases, not-both, apart, three}
-use Rattle.names.proofs.Lists.{at-cons}
+use Rattle.names.proofs.Lists.{at-cons, in-getD}
 use Rattle.names.proofs.Orders.{le-trans, asym, irreflexive, lt-le}
 
 abbrev pub All : (ℕ → Type 0) → List ℕ → Type 0
@@ -31,11 +31,6 @@ all-at : (P : ℕ → Type 0) (xs : List ℕ) (k : ℕ) → All P xs → k < len
 all-at P [] k h l = absurd (omega arith)
 all-at P (x ∷ xs) zero h l = h .0
 all-at P (x ∷ xs) (suc k) h l = all-at P xs k (h .1) (omega arith)
-
-in-at : (xs : List ℕ) (q : ℕ) → In q xs → (k : ℕ) × (k < length xs) × (getD xs k 0 ≡ q)
-in-at [] q m = absurd m
-in-at (x ∷ xs) q (inl e) = (0, omega arith, sym e)
-in-at (x ∷ xs) q (inr m) = let r = in-at xs q m in (suc (r .0), omega (arith, r .1), r .2)
 
 module _ (name : ℕ → List ℕ) where
   -- p stands before q in the index
@@ -131,9 +126,9 @@ module _ (name : ℕ → List ℕ) where
             subst (λ (x : ℕ). Stands x (getD xs j 0)) (at i (omega arith))
             (subst (λ (x : ℕ). Stands (getD (ordered name 0 n) i 0) x) (at j l) (rises-at (ordered name 0 n) i j (ordered-rises 0 n) h (omega arith)));
         has = λ q h.
-            let r = in-at (ordered name 0 n) (0 + q) (ordered-in 0 n q h) in
-            let l : r .0 < n = omega (arith, r .1) in
-            (r .0, l, sym (at (r .0) l) ∙ (r .2 ∙ zero-add q));
+            let r = in-getD (ordered name 0 n) (0 + q) 0 (ordered-in 0 n q h) in
+            let l : r .0 < n = omega (arith, r .1 .0) in
+            (r .0, l, sym (at (r .0) l) ∙ (sym (r .1 .1) ∙ zero-add q));
       }
 
   -- ---- two runs merged

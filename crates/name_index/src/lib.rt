@@ -1,5 +1,5 @@
 // An index of names: positions of equally long records in order of their keys, then names. It is sorted by merging, so that it
-// takes n log n comparisons on all input. Public calls, for the floors above: hash, hash_names, build, build_by_name, find, first_repeat.
+// takes n log n comparisons on all input. Public calls, for the floors above: hash, hash_names, build, find, first_repeat.
 ghost use mathlib.Core.Path.{_≡_};
 ghost use mathlib.Core.List.{_∷_, _++_};
 ghost use Prim.Native.Nat.{_+_, _-_, _*_, _/_, _≤_, _<_};
@@ -232,15 +232,6 @@ pub fn build(bytes: &[u8], l: Layout, n: usize, keys: &[u32], index: &mut [u16])
 {
     let mut other = [0u16; 1536];
     sort(bytes, l, n, keys, 0, &mut index[..n], &mut other);
-}
-
-// The same in order of the names alone: all keys are 0.
-pub fn build_by_name(bytes: &[u8], l: Layout, n: usize, index: &mut [u16])
-    requires { ⌜ Whole (now bytes) l n × ((n ≤ length (now index)) × (n ≤ 1536)) ⌝ }
-    ensures { λ r. ⌜ now (index .exit) ≡ ordered (nameOf (now (bytes .entry)) l) 0 n ++ drop n (now (index .entry)) ⌝ }
-{
-    let keys = [0u32; 1536];
-    build(bytes, l, n, &keys, index);
 }
 
 // The place of a key and a name in an index.

@@ -1,8 +1,8 @@
 -- The laws of judging rows in order: one row, a list joined to a list, none that applies, and what the code hands on.
 -- Assumes nothing.
-use Prim.Native.Nat.{ℕ, _<_}
+use Prim.Native.Nat.{ℕ, suc, _<_}
 use mathlib.Core.Path.{_≡_, refl, sym, ap, _∙_}
-use mathlib.Core.Bool.{true, false}
+use mathlib.Core.Bool.{true}
 use mathlib.Core.Option.{Option, none, some}
 use mathlib.Core.List.{List, [], _∷_, _++_}
 use native.Mathlib.Omega.{arith}
@@ -25,7 +25,11 @@ pub row-passes : (n : ℕ) {o : Option ℕ} (rs : List Row) → o ≡ none → j
 unfolding judged
 row-passes n rs e = rw (e, judged)
 
--- the same of a search's answer, as the code hands it on
+-- the same of a search's answer, as the code hands it on; of no rows it is 0 at 0
+pub no-rows : refusalAt 0 0 ≡ handed (judged [])
+unfolding judged handed
+no-rows = refl
+
 pub row-hit : (n : ℕ) {p : ℕ} (o : Option ℕ) (rs : List Row) → At p ≡ foundOf o → refusalAt n p ≡ handed (judged (row n o ∷ rs))
 unfolding handed
 row-hit n o rs e = sym (ap handed (row-applies n rs (found-some e)))
@@ -49,7 +53,6 @@ judged-none (r ∷ rs) e =
 
 -- the row of number n does not
 pub row-none : (n : ℕ) (rs : List Row) → NoneApplies rs → faultOf n rs ≡ none
-unfolding faultOf
 row-none n [] h = refl
 row-none n (r ∷ rs) h =
     by-cases (eqb (r .number) n)
@@ -116,3 +119,7 @@ hand-first xs ys e n = sym (ap handed (join-first xs ys (handed-some (judged xs)
 
 pub hand-second : (xs ys : List Row) {r : Refusal} → NoneApplies xs → r ≡ handed (judged ys) → r ≡ handed (judged (xs ++ ys))
 hand-second xs ys h e = e ∙ sym (ap handed (join-second xs ys (none-judged xs h)))
+
+-- a row that applies gives no 0
+pub not-zero : {X : Type 0} (r : Refusal) (n p : ℕ) → r ≡ refusalAt (suc n) p → r .number ≡ 0 → X
+not-zero r n p e z = absurd (let k : r .number ≡ suc n = ap (λ (x : Refusal). x .number) e in omega arith)

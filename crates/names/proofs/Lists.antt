@@ -1,7 +1,7 @@
 -- The laws of the list functions: what is in a list that they make, and what their answers say. Assumes nothing.
 use mathlib.Core.Path.{_≡_, refl, sym, ap, _∙_}
 use mathlib.Core.Logic.{_⊎_, inl, inr, ⊎-elim}
-use mathlib.Core.Bool.{Bool, true, false, not, _||_, or-true, false≢true, true≢false}
+use mathlib.Core.Bool.{Bool, true, false, not, _||_, or-true, false≢true, true≢false, _&&_}
 use mathlib.Core.Option.{none, some}
 use mathlib.Core.List.{List, [], _∷_, _++_, map}
 use Prim.Native.Nat.{ℕ, zero, suc, _+_, _*_, _≤_, _<_}
@@ -321,12 +321,20 @@ in-getD [] a d i = absurd i
 in-getD (x ∷ l) a d (inl p) = (0, (omega arith, p))
 in-getD (x ∷ l) a d (inr i) = let r = in-getD l a d i in (suc (r .0), (omega (arith, r .1 .0), r .1 .1))
 
--- ---- one end, one beginning
-pub append-cancel : (a b t : List ℕ) → a ++ t ≡ b ++ t → a ≡ b
-append-cancel [] [] t e = refl
-append-cancel [] (y ∷ b) t e = absurd (let l : length t ≡ length (y ∷ b ++ t) = ap length e in omega (arith, length-append b t))
-append-cancel (x ∷ a) [] t e = absurd (let l : length (x ∷ a ++ t) ≡ length t = ap length e in omega (arith, length-append a t))
-append-cancel (x ∷ a) (y ∷ b) t e =
-    let h : x ≡ y = cc in
-    let r : a ≡ b = append-cancel a b t (let z : a ++ t ≡ b ++ t = cc in z) in
-    cc
+-- ---- to be one of one or two
+pub among-one : (c x : ℕ) → among c (x ∷ []) ≡ eqb c x
+among-one c x = by-cases (eqb c x) (λ e. rw (e, among)) (λ e. rw (e, among))
+
+pub among-more : (c x : ℕ) (xs : List ℕ) → among c (x ∷ xs) ≡ eqb c x || among c xs
+among-more c x xs = by-cases (eqb c x) (λ e. rw (e, among)) (λ e. rw (e, among))
+
+pub among-two : (c x y : ℕ) → among c (x ∷ y ∷ []) ≡ eqb c x || eqb c y
+among-two c x y = among-more c x (y ∷ []) ∙ ap (λ (b : Bool). eqb c x || b) (among-one c y)
+
+-- ---- the first that passes a test, of those that pass another
+pub first-keep : {A : Type 0} (t u : A → Bool) (xs : List A) → first t (keep u xs) ≡ first (λ x. u x && t x) xs
+first-keep t u [] = refl
+first-keep t u (x ∷ xs) =
+    by-cases (u x)
+    (λ e. by-cases (t x) (λ h. rw (e, keep, first, h, first)) (λ h. rw (e, keep, first, h, first) (first-keep t u xs)))
+    (λ e. rw (e, keep, first) (first-keep t u xs))

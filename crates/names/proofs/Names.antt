@@ -5,7 +5,7 @@ use mathlib.Core.List.{List, [], _∷_, _++_}
 use Prim.Native.Nat.{ℕ, zero, suc, _+_, _-_, _<_, _≤_}
 use native.Mathlib.Omega.{arith}
 use native.Mathlib.Nat.{add-sub-cancel-left}
-use lib.ListN.{length, getD, take, drop, replicate, drop-of-length-le, length-drop}
+use lib.ListN.{length, getD, take, drop, replicate, drop-of-length-le, length-drop, take-append-drop}
 use lib.Seq.{take-all, drop-append-seam}
 use lib.Dec.{eqb}
 use borrow.Author.Tests.{eq-eqb, ne-eqb, eqb-true, eqb-false}
@@ -329,3 +329,14 @@ pub name-padded : (w : ℕ) (n : List ℕ) → areNameCharacters n ≡ true → 
 unfolding isName isBlank
 name-padded w n e =
     rw (text-padded w n e) (both e (ap (every (eqb 0)) (padding-of w n) ∙ every-replicate (eqb 0) (w - length n) 0 refl))
+
+-- ---- a name's field is the name and zeros
+pub name-padding : (w : ℕ) (f : List ℕ) → isName f ≡ true → length f ≡ w → f ≡ padded w (text f)
+unfolding isName text padded
+name-padding w f e l =
+    let t = text f in
+    let b = blank-zeros (drop (length t) f) (and-right (areNameCharacters t) (isBlank (drop (length t) f)) e) in
+    let n : length (drop (length t) f) ≡ w - length t = rw (length-drop, l) in
+    sym (take-append-drop (length t) f)
+    ∙ (ap (λ (k : List ℕ). k ++ drop (length t) f) (take-while nonZero f)
+    ∙ (ap (λ (k : List ℕ). t ++ k) b ∙ ap (λ (k : ℕ). t ++ replicate k 0) n))

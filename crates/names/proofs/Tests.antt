@@ -53,10 +53,6 @@ pub or-none-right : (a b : Bool) → a || b ≡ false → b ≡ false
 or-none-right true b e = absurd (true≢false e)
 or-none-right false b e = e
 
-pub and-false : (b : Bool) → b && false ≡ false
-and-false true = refl
-and-false false = refl
-
 -- ---- options
 pub by-option : {A X : Type 0} (o : Option A) → (o ≡ none → X) → ((a : A) → o ≡ some a → X) → X
 by-option none f g = f refl

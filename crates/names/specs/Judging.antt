@@ -32,7 +32,7 @@ NoneApplies [] = Unit {0}
 NoneApplies (r ∷ rs) = (r .fault ≡ none) × NoneApplies rs
 
 -- the place where the row of number n applies, if any
-unfoldable pub faultOf : ℕ → List Row → Option ℕ
+abbrev pub faultOf : ℕ → List Row → Option ℕ
 faultOf n [] = none
 faultOf n (r ∷ rs) = elim (eqb (r .number) n) [ true ↦ r .fault | false ↦ faultOf n rs ]
 

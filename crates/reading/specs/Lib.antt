@@ -1,3 +1,2 @@
--- What the promises about reading a recipe cite: rows 1 to 6 in order, and what judging the later ones asks.
-pub mod Answer
+-- What the promises about reading a recipe cite: what rows 4 to 6 and the tables ask, and what is handed up.
 pub mod Tables

@@ -1,48 +1,34 @@
 // Reading a recipe: the refusals 1 to 6 in order, and where none applies the tables by place.
-// Public calls: answer and read_tables for the floors above, and bandrolt_read_recipe, exported to C, which requires nothing.
+// For the floors above: read_tables, which takes the name width w and lent tables. There is no public call.
 ghost use mathlib.Core.Path.{_≡_};
 ghost use mathlib.Core.Option.{none};
+ghost use mathlib.Core.List.{_++_};
 ghost use lib.ListN.{length};
+ghost use Rattle.names.specs.Judging.{judged, handed};
 ghost use Rattle.recipe.specs.Records.{Recipe};
-ghost use Rattle.recipe.specs.Reading.{fault₅};
+ghost use Rattle.recipe.specs.Reading.{fault₅, formRows, namingRows};
 ghost use Rattle.links.specs.Entries.{ByPlace};
 ghost use Rattle.links.specs.Links.{modelLink};
-ghost use Rattle.reading.specs.Answer.{answerOf, judgedAlone, judgedNames, readVerdict};
 ghost use Rattle.reading.specs.Tables.{Width, Room, Known, Modelled, Linkable, MarksLinked, ElementsLinked, Linked, Tables};
 use names::Found;
-
-// Number and place of the first row that applies, or 0 and 0.
-#[repr(C)]
-pub struct ReadAnswer {
-    pub number: u64,
-    pub place: u64,
-}
-
-pub fn answer(number: u64, place: usize) -> ReadAnswer
-    ensures { λ r. ⌜ r ≡ answerOf number place ⌝ }
-{
-    ReadAnswer {
-        number: number,
-        place: place as u64,
-    }
-}
+use names::Refusal;
 
 // Rows 1 to 3.
-fn judge_alone(s: &[u8], w: usize) -> ReadAnswer
+fn judge_alone(s: &[u8], w: usize) -> Refusal
     requires { ⌜ Width w ⌝ }
-    ensures { λ r. ⌜ r ≡ judgedAlone (record { width = w; bytes = now (s .entry) }) (answerOf 0 0) ⌝ }
+    ensures { λ r. ⌜ r ≡ handed (judged (formRows (record { width = w; bytes = now (s .entry) }))) ⌝ }
 {
     if let Found::At(p) = recipe::length_fault(s) {
-        return answer(1, p);
+        return names::refuse(1, p);
     }
     let stop = recipe::reading_stop(s, w);
     if stop < s.len() {
-        return answer(2, stop);
+        return names::refuse(2, stop);
     }
     if let Found::At(p) = recipe::first_unformed(s, w) {
-        return answer(3, p);
+        return names::refuse(3, p);
     }
-    answer(0, 0)
+    names::refuse(0, 0)
 }
 
 // Rows 4 to 6; where none applies, each submodel's model and each definition's height.
@@ -57,21 +43,21 @@ fn judge_names(
     index: &[u16],
     model: &mut [u16; 16384],
     height: &mut [u16; 16384],
-) -> ReadAnswer
+) -> Refusal
     requires { ⌜ Known (record { width = w; bytes = now s }) (now at) (now hold) (now fields) (now keys) (now index) n × ((length (now model) ≡ 16384) × (length (now height) ≡ 16384)) ⌝ }
-    ensures { λ r. ⌜ (r ≡ judgedNames (record { width = w; bytes = now (s .entry) })) × (r .number ≡ 0 → Modelled (record { width = w; bytes = now (s .entry) }) (now (model .exit)) (now (height .exit))) ⌝ }
+    ensures { λ r. ⌜ (r ≡ handed (judged (namingRows (record { width = w; bytes = now (s .entry) })))) × (r .number ≡ 0 → Modelled (record { width = w; bytes = now (s .entry) }) (now (model .exit)) (now (height .exit))) ⌝ }
 {
     if let Found::At(p) = links::first_repeated(s, w, n, at, fields, keys, index) {
-        return answer(4, p);
+        return names::refuse(4, p);
     }
     if let Found::At(p) = links::first_undeclared(s, w, n, at, fields, keys, index, hold) {
-        return answer(5, p);
+        return names::refuse(5, p);
     }
     links::link_models(s, w, n, at, fields, keys, index, hold, model);
     if let Found::At(p) = heights::find_heights(s, w, hold, model, height) {
-        return answer(6, p);
+        return names::refuse(6, p);
     }
-    answer(0, 0)
+    names::refuse(0, 0)
 }
 
 // The tables of marks and ports: owners, submodels, and what they name.
@@ -134,9 +120,9 @@ fn link_tables(
     par: &mut [u16; 16384],
     refs: &mut [u16; 16384],
     nxt: &mut [u16; 16384],
-) -> ReadAnswer
+) -> Refusal
     requires { ⌜ Known (record { width = w; bytes = now s }) (now at) (now hold) (now fields) (now keys) (now index) n × Room (now model) (now height) (now own) (now sub) (now par) (now refs) (now nxt) ⌝ }
-    ensures { λ r. ⌜ (r ≡ judgedNames (record { width = w; bytes = now (s .entry) })) × (r .number ≡ 0 → Linked (record { width = w; bytes = now (s .entry) }) (now (model .exit)) (now (height .exit)) (now (own .exit)) (now (sub .exit)) (now (par .exit)) (now (refs .exit)) (now (nxt .exit))) ⌝ }
+    ensures { λ r. ⌜ (r ≡ handed (judged (namingRows (record { width = w; bytes = now (s .entry) })))) × (r .number ≡ 0 → Linked (record { width = w; bytes = now (s .entry) }) (now (model .exit)) (now (height .exit)) (now (own .exit)) (now (sub .exit)) (now (par .exit)) (now (refs .exit)) (now (nxt .exit))) ⌝ }
 {
     let a = judge_names(s, w, n, at, hold, fields, keys, index, model, height);
     if a.number != 0 {
@@ -159,9 +145,9 @@ pub fn read_tables(
     par: &mut [u16; 16384],
     refs: &mut [u16; 16384],
     nxt: &mut [u16; 16384],
-) -> ReadAnswer
+) -> Refusal
     requires { ⌜ Width w × ((length (now hold) ≡ 16384) × Room (now model) (now height) (now own) (now sub) (now par) (now refs) (now nxt)) ⌝ }
-    ensures { λ r. ⌜ (r ≡ readVerdict (record { width = w; bytes = now (s .entry) })) × (r .number ≡ 0 → Tables (record { width = w; bytes = now (s .entry) }) (now (hold .exit)) (now (model .exit)) (now (height .exit)) (now (own .exit)) (now (sub .exit)) (now (par .exit)) (now (refs .exit)) (now (nxt .exit))) ⌝ }
+    ensures { λ r. ⌜ (r ≡ handed (judged (formRows (record { width = w; bytes = now (s .entry) }) ++ namingRows (record { width = w; bytes = now (s .entry) })))) × (r .number ≡ 0 → Tables (record { width = w; bytes = now (s .entry) }) (now (hold .exit)) (now (model .exit)) (now (height .exit)) (now (own .exit)) (now (sub .exit)) (now (par .exit)) (now (refs .exit)) (now (nxt .exit))) ⌝ }
 {
     let a = judge_alone(s, w);
     if a.number != 0 {
@@ -188,32 +174,5 @@ pub fn read_tables(
         par,
         refs,
         nxt,
-    )
-}
-
-// Rows 1 to 6 of a recipe of name width 12.
-#[no_mangle]
-pub extern "C" fn bandrolt_read_recipe(recipe: &[u8]) -> ReadAnswer
-    ensures { λ r. ⌜ r ≡ readVerdict (record { width = 12; bytes = now (recipe .entry) }) ⌝ }
-{
-    let mut hold = [0u16; 16384];
-    let mut model = [0u16; 16384];
-    let mut height = [0u16; 16384];
-    let mut own = [0u16; 16384];
-    let mut sub = [0u16; 16384];
-    let mut par = [0u16; 16384];
-    let mut refs = [0u16; 16384];
-    let mut nxt = [0u16; 16384];
-    read_tables(
-        recipe,
-        12,
-        &mut hold,
-        &mut model,
-        &mut height,
-        &mut own,
-        &mut sub,
-        &mut par,
-        &mut refs,
-        &mut nxt,
     )
 }

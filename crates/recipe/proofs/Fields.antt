@@ -1,25 +1,23 @@
 -- What the record at a place reads as, field by field: one law for each way through its reader.
 -- Assumes nothing.
 use mathlib.Core.Path.{_≡_, refl, sym, ap, _∙_}
-use mathlib.Core.Logic.{_⊎_, inl, inr}
 use Prim.Native.Nat.{ℕ, zero, suc, _+_, _-_, _*_, _≤_, _<_}
 use native.Mathlib.Omega.{arith}
-use mathlib.Core.Bool.{true, false, cond, not, _&&_}
+use mathlib.Core.Bool.{true, false, cond, not, _&&_, true≢false}
 use mathlib.Core.List.{List, [], _∷_}
 use lib.ListN.{length, getD, take, drop, length-take}
 use lib.Seq.{getD-take, getD-drop}
-use lib.Dec.{eqb, leb}
-use borrow.Author.Tests.{eq-eqb, ne-eqb, eqb-true, eqb-false, le-leb, lt-leb, leb-true}
+use borrow.Author.Tests.{eq-eqb, ne-eqb, eqb-true, eqb-false, le-leb, lt-leb}
 use Rattle.names.specs.Lists.{lastOr, first}
 use Rattle.names.specs.Names.{text, isName, isBlank, isNameOrBlank, fieldOf, fieldAt, nonZero, underscore}
 use Rattle.names.specs.declared.Field.the-variants.{Name, Blank, Neither}
-use Rattle.names.proofs.Tests.{by-cases, and-left, and-right}
+use Rattle.names.proofs.Tests.{by-cases, or-left}
 use Rattle.names.proofs.Lists.{while-length, take-while}
 use Rattle.names.proofs.Names.{is-name, field-is, some-character, name-characters}
 use Rattle.flat_table.specs.Classes.{isClass}
-use Rattle.recipe.specs.Records.{Recipe, places, bodyLengths, isKnown, recordLength, kind, next, isReadable, isModel, isElement, isPort, isSubmodel, isDeletion, isReplacement, field, byte, firstField, name, class, parentField, referenceField, modelField, submodelOffset, submodelField, way, targetField}
-use Rattle.recipe.specs.Reading.{endsWithUnderscore, isWay, isElementForm, isPortForm, isSubmodelForm, isMarkForm, isForm, fault₃}
-use Rattle.recipe.specs.Fields.{wayOf, targetReading, elementOf, portOf, submodelOf, markOf, markReading, recordOf, readingOf, RecordAt, TargetAt}
+use Rattle.recipe.specs.Records.{Recipe, places, partOffset, submodelPart, portKind, markKind, pointerKind, deletionKind, replacedByKind, isMark, isReplacedBy, recordLength, kind, next, isReadable, isModel, isElement, isPort, isSubmodel, isDeletion, isReplacement, field, byte, firstField, name, class, parentField, referenceField, modelField, submodelOffset, submodelField, way, targetField}
+use Rattle.recipe.specs.Reading.{endsWithUnderscore, isWay, isForm, fault₃}
+use Rattle.recipe.specs.Fields.{wayOf, targetReading, elementFields, portFields, submodelFields, markFields, markReading, recordOf, readingOf, RecordAt, TargetAt, MarkAt}
 use Rattle.recipe.specs.declared.Way.{Way}
 use Rattle.recipe.specs.declared.Way.the-variants.{ByElement, ByPort}
 use Rattle.recipe.specs.declared.Target.the-variants.{Named, Unnamed}
@@ -28,7 +26,8 @@ use Rattle.recipe.specs.declared.Marked.the-variants.{Marks, Unmarked}
 use Rattle.recipe.specs.declared.Record.{Record}
 use Rattle.recipe.specs.declared.Record.the-variants.{Model, Element, Port, Submodel, Deletion, Replacement, ReplacedBy}
 use Rattle.recipe.specs.declared.Read.the-variants.{As, Refused}
-use Rattle.recipe.proofs.Reading.{readable-fits, next-more}
+use Rattle.recipe.proofs.Bodies.{by-kind, by-mark, by-pointer, model-form, element-form, port-form, submodel-form, mark-form, mark-kind}
+use Rattle.recipe.proofs.Reading.{readable-fits, known, next-more}
 
 -- ---- the last character of a name
 pub last-at : (d : ℕ) (xs : List ℕ) (k : ℕ) → length xs ≡ suc k → lastOr d xs ≡ getD xs k 0
@@ -90,73 +89,95 @@ module _ (s : Recipe) (p : ℕ) where
     in-recipe = omega (arith, fits, next-more s p)
 
     pub at-1 : kind s p ≡ 1 → RecordAt s p 1 (1 + s .width)
-    unfolding next recordLength bodyLengths
-    at-1 k = record { kinded = k; room = let h : p + (1 + s .width) ≤ length (s .bytes) = rw k at fits in h }
+    unfolding next recordLength
+    at-1 k = record { kinded = k; room = rw k at fits }
 
     pub at-2 : kind s p ≡ 2 → RecordAt s p 2 (2 + 3 * s .width)
-    unfolding next recordLength bodyLengths
-    at-2 k = record { kinded = k; room = let h : p + (1 + (3 * s .width + 1)) ≤ length (s .bytes) = rw k at fits in omega arith }
+    unfolding next recordLength
+    at-2 k = record { kinded = k; room = let h : p + (1 + (s .width + (1 + (s .width + s .width)))) ≤ length (s .bytes) = rw k at fits in omega arith }
 
     pub at-3 : kind s p ≡ 3 → RecordAt s p 3 (2 + 3 * s .width)
-    unfolding next recordLength bodyLengths
-    at-3 k = record { kinded = k; room = let h : p + (1 + (3 * s .width + 1)) ≤ length (s .bytes) = rw k at fits in omega arith }
+    unfolding next recordLength
+    at-3 k = record { kinded = k; room = let h : p + (1 + (s .width + (s .width + (1 + s .width)))) ≤ length (s .bytes) = rw k at fits in omega arith }
 
     pub at-4 : kind s p ≡ 4 → RecordAt s p 4 (1 + 2 * s .width)
-    unfolding next recordLength bodyLengths
-    at-4 k = record { kinded = k; room = let h : p + (1 + 2 * s .width) ≤ length (s .bytes) = rw k at fits in omega arith }
+    unfolding next recordLength
+    at-4 k = record { kinded = k; room = let h : p + (1 + (s .width + s .width)) ≤ length (s .bytes) = rw k at fits in omega arith }
 
-    pub at-5 : kind s p ≡ 5 → TargetAt s p 0
-    unfolding next recordLength bodyLengths submodelOffset isDeletion
-    at-5 k = record { begins = rw (k, submodelOffset); room = let h : p + (1 + (2 * s .width + 1)) ≤ length (s .bytes) = rw k at fits in omega arith }
+    pub mark-at : {k : ℕ} → kind s p ≡ k → markKind k ≡ true → MarkAt s p k
+    mark-at e m = record { kinded = e; marks = m; room = fits }
 
-    at-6-7 : (kind s p ≡ 6) ⊎ (kind s p ≡ 7) → TargetAt s p (s .width)
-    unfolding next recordLength bodyLengths submodelOffset isDeletion
-    at-6-7 (inl k) = record { begins = rw (k, submodelOffset); room = let h : p + (1 + (3 * s .width + 1)) ≤ length (s .bytes) = rw k at fits in omega arith }
-    at-6-7 (inr k) = record { begins = rw (k, submodelOffset); room = let h : p + (1 + (3 * s .width + 1)) ≤ length (s .bytes) = rw k at fits in omega arith }
+    -- a record of kind 1 to 4 or a mark: there is no other
+    pub no-other : (kind s p ≡ 1 → ⊥) → (kind s p ≡ 2 → ⊥) → (kind s p ≡ 3 → ⊥) → (kind s p ≡ 4 → ⊥) → markKind (kind s p) ≡ false → ⊥
+    unfolding isReadable
+    no-other n₁ n₂ n₃ n₄ m =
+        by-kind (λ k. kind s p ≡ k → ⊥) n₁ n₂ n₃ n₄ (λ k. true≢false (rw k at m)) (λ k. true≢false (rw k at m)) (λ k. true≢false (rw k at m))
+        (kind s p) (known s p e) refl
 
-    pub known : (1 ≤ kind s p) × (kind s p ≤ 7)
-    unfolding isReadable isKnown
-    known =
-        let h : leb 1 (kind s p) && leb (kind s p) 7 ≡ true = and-left (leb 1 (kind s p) && leb (kind s p) 7) _ (and-left (leb 1 (kind s p) && leb (kind s p) 7 && leb (next s p) (length (s .bytes))) _ e) in
-        (leb-true 1 (kind s p) (and-left (leb 1 (kind s p)) _ h), leb-true (kind s p) 7 (and-right (leb 1 (kind s p)) _ h))
+  -- ---- marks
+  pub mark-is : {k : ℕ} → MarkAt s p k → isMark s p ≡ true
+  mark-is m = mark-kind s p ∙ (ap markKind (m .kinded) ∙ m .marks)
 
-    module _ (n₁ : kind s p ≡ 1 → ⊥) (n₂ : kind s p ≡ 2 → ⊥) (n₃ : kind s p ≡ 3 → ⊥) (n₄ : kind s p ≡ 4 → ⊥) (n₅ : kind s p ≡ 5 → ⊥) where
-      kind-7 : (kind s p ≡ 6 → ⊥) → kind s p ≡ 7
-      kind-7 n₆ = omega (arith, known .0, known .1)
+  -- submodel, way and target of a whole mark or port are in the recipe
+  pub target-at : next s p ≤ length (s .bytes) → pointerKind (kind s p) ≡ true → {o : ℕ} → o ≡ submodelOffset s p → TargetAt s p o
+  unfolding submodelOffset next recordLength
+  target-at f h {o} e =
+      record {
+        begins = e;
+        room =
+            by-pointer (λ k. kind s p ≡ k → p + 1 + (o + s .width + 1) + s .width ≤ length (s .bytes))
+            (behind 3 refl refl)
+            (λ k. let g : p + (1 + (s .width + (1 + s .width))) ≤ length (s .bytes) = rw k at f in let q : o ≡ 0 = rw k at e in omega arith)
+            (behind 6 refl refl)
+            (behind 7 refl refl)
+            (kind s p) h refl;
+      }
+    where
+      behind : (j : ℕ) → recordLength (s .width) j ≡ 1 + (s .width + (s .width + (1 + s .width))) → partOffset (s .width) j (submodelPart j) ≡ s .width
+          → kind s p ≡ j → p + 1 + (o + s .width + 1) + s .width ≤ length (s .bytes)
+      behind j l q k =
+          let g : p + recordLength (s .width) j ≤ length (s .bytes) = rw k at f in
+          let r : o ≡ partOffset (s .width) j (submodelPart j) = rw k at e in
+          omega arith
 
-      pub at-rest : TargetAt s p (s .width)
-      at-rest =
-          by-cases (eqb (kind s p) 6)
-          (λ h. at-6-7 (inl (eqb-true (kind s p) 6 h)))
-          (λ h. at-6-7 (inr (kind-7 (eqb-false (kind s p) 6 h))))
+  pub mark-target : {k o : ℕ} → MarkAt s p k → o ≡ partOffset (s .width) k (submodelPart k) → TargetAt s p o
+  unfolding submodelOffset
+  mark-target {k} {o} m e =
+      target-at (m .room) (ap pointerKind (m .kinded) ∙ or-left (markKind k) (portKind k) (m .marks))
+      (e ∙ ap (λ (j : ℕ). partOffset (s .width) j (submodelPart j)) (sym (m .kinded)))
 
-      pub mark-7 : (kind s p ≡ 6 → ⊥) → {m : Mark} → Marks m ≡ markReading s p → As (ReplacedBy m) ≡ readingOf s p
-      unfolding readingOf isForm recordOf isModel isElement isPort isSubmodel isDeletion isReplacement markReading
-      mark-7 n₆ {m} h =
-          by-cases (isMarkForm s p)
-          (λ f. let g : Marks m ≡ Marks (markOf s p) = rw f at h in let z : m ≡ markOf s p = cc in rw (kind-7 n₆, f, z))
-          (λ f. let g : Marks m ≡ Unmarked = rw f at h in let z : _≡_ {A = ℕ} 0 1 = cc in absurd (omega arith))
-
-  pub mark-5 : kind s p ≡ 5 → {m : Mark} → Marks m ≡ markReading s p → As (Deletion m) ≡ readingOf s p
-  unfolding readingOf isForm recordOf isModel isElement isPort isSubmodel isDeletion markReading
-  mark-5 k {m} h =
-      by-cases (isMarkForm s p)
-      (λ f. let g : Marks m ≡ Marks (markOf s p) = rw f at h in let z : m ≡ markOf s p = cc in rw (k, f, z))
+  marked : {m : Mark} → Marks m ≡ markReading s p → (isForm s p ≡ true) × (m ≡ markFields s p)
+  unfolding markReading
+  marked {m} h =
+      by-cases (isForm s p)
+      (λ f. let g : Marks m ≡ Marks (markFields s p) = rw f at h in (f, let z : m ≡ markFields s p = cc in z))
       (λ f. let g : Marks m ≡ Unmarked = rw f at h in let z : _≡_ {A = ℕ} 0 1 = cc in absurd (omega arith))
 
-  pub mark-6 : kind s p ≡ 6 → {m : Mark} → Marks m ≡ markReading s p → As (Replacement m) ≡ readingOf s p
-  unfolding readingOf isForm recordOf isModel isElement isPort isSubmodel isDeletion isReplacement markReading
-  mark-6 k {m} h =
-      by-cases (isMarkForm s p)
-      (λ f. let g : Marks m ≡ Marks (markOf s p) = rw f at h in let z : m ≡ markOf s p = cc in rw (k, f, z))
-      (λ f. let g : Marks m ≡ Unmarked = rw f at h in let z : _≡_ {A = ℕ} 0 1 = cc in absurd (omega arith))
+  pub unmarked : Unmarked ≡ markReading s p → Refused ≡ readingOf s p
+  unfolding readingOf markReading
+  unmarked h =
+      by-cases (isForm s p)
+      (λ f. let g : Unmarked ≡ Marks (markFields s p) = rw f at h in let z : _≡_ {A = ℕ} 0 1 = cc in absurd (omega arith))
+      (λ f. rw f)
 
-  pub unmarked : (kind s p ≡ 1 → ⊥) → (kind s p ≡ 2 → ⊥) → (kind s p ≡ 3 → ⊥) → (kind s p ≡ 4 → ⊥) → Unmarked ≡ markReading s p → Refused ≡ readingOf s p
-  unfolding readingOf isForm isModel isElement isPort isSubmodel markReading
-  unmarked n₁ n₂ n₃ n₄ h =
-      by-cases (isMarkForm s p)
-      (λ f. let g : Unmarked ≡ Marks (markOf s p) = rw f at h in let z : _≡_ {A = ℕ} 0 1 = cc in absurd (omega arith))
-      (λ f. rw (ne-eqb (kind s p) 1 n₁, ne-eqb (kind s p) 2 n₂, ne-eqb (kind s p) 3 n₃, ne-eqb (kind s p) 4 n₄, f))
+  pub deletion-read : deletionKind (kind s p) ≡ true → {m : Mark} → Marks m ≡ markReading s p → As (Deletion m) ≡ readingOf s p
+  unfolding readingOf recordOf isModel isElement isPort isSubmodel isDeletion
+  deletion-read d h = let r = marked h in rw (r .0, eqb-true (kind s p) 5 d, r .1)
+
+  pub replaced-by-read : replacedByKind (kind s p) ≡ true → {m : Mark} → Marks m ≡ markReading s p → As (ReplacedBy m) ≡ readingOf s p
+  unfolding readingOf recordOf isModel isElement isPort isSubmodel isDeletion isReplacement isReplacedBy
+  replaced-by-read b h = let r = marked h in rw (r .0, eqb-true (kind s p) 7 b, r .1)
+
+  pub replacement-read : markKind (kind s p) ≡ true → deletionKind (kind s p) ≡ false → replacedByKind (kind s p) ≡ false
+      → {m : Mark} → Marks m ≡ markReading s p → As (Replacement m) ≡ readingOf s p
+  unfolding readingOf recordOf isModel isElement isPort isSubmodel isDeletion isReplacement
+  replacement-read k d b {m} h =
+      let r = marked h in
+      by-mark (λ j. kind s p ≡ j → As (Replacement m) ≡ readingOf s p)
+      (λ j. absurd (eqb-false (kind s p) 5 d j))
+      (λ j. rw (r .0, j, r .1))
+      (λ j. absurd (eqb-false (kind s p) 7 b j))
+      (kind s p) k refl
 
   -- ---- way and target
   module _ (k : ℕ) (begins : k ≡ submodelOffset s p) where
@@ -198,123 +219,124 @@ module _ (s : Recipe) (p : ℕ) where
   -- ---- by kind: 1
   module _ (k : kind s p ≡ 1) where
     pub model-refused : isName (field s p 0) ≡ false → Refused ≡ readingOf s p
-    unfolding readingOf isForm isModel firstField
-    model-refused a = rw (k, a)
+    unfolding readingOf firstField
+    model-refused a = rw (model-form s p k, a)
 
     pub model-read : isName (field s p 0) ≡ true → As (Model (p + 1)) ≡ readingOf s p
-    unfolding readingOf isForm isModel recordOf firstField
-    model-read a = rw (k, a)
+    unfolding readingOf recordOf isModel firstField
+    model-read a = rw (model-form s p k, a, k)
 
   -- 2
   module _ (k : kind s p ≡ 2) where
-    element-reading : readingOf s p ≡ cond (isElementForm s p) (As (Element (elementOf s p))) Refused
-    unfolding readingOf isForm recordOf isModel isElement
+    element-reading : readingOf s p ≡ cond (isForm s p) (As (Element (elementFields s p))) Refused
+    unfolding readingOf recordOf isModel isElement
     element-reading = rw k
 
     pub element-nameless : isName (field s p 0) ≡ false → Refused ≡ readingOf s p
-    unfolding isElementForm firstField
-    element-nameless a = sym (element-reading ∙ rw a)
+    unfolding firstField
+    element-nameless a = sym (element-reading ∙ rw (element-form s p k, a))
 
     module _ (a : isName (field s p 0) ≡ true) where
       pub element-classless : isClass (getD (s .bytes) (p + 1 + s .width) 0) ≡ false → Refused ≡ readingOf s p
-      unfolding isElementForm firstField class byte
-      element-classless b = sym (element-reading ∙ rw (a, b))
+      unfolding firstField class byte
+      element-classless b = sym (element-reading ∙ rw (element-form s p k, a, b))
 
       module _ (b : isClass (getD (s .bytes) (p + 1 + s .width) 0) ≡ true) where
         pub element-parent : isNameOrBlank (field s p (s .width + 1)) ≡ false → Refused ≡ readingOf s p
-        unfolding isElementForm firstField class byte parentField
-        element-parent c = sym (element-reading ∙ rw (a, b, c))
+        unfolding firstField class byte parentField
+        element-parent c = sym (element-reading ∙ rw (element-form s p k, a, b, c))
 
         module _ (c : isNameOrBlank (field s p (s .width + 1)) ≡ true) where
-          pub element-reference : isNameOrBlank (field s p (2 * s .width + 1)) ≡ false → Refused ≡ readingOf s p
-          unfolding isElementForm firstField class byte parentField referenceField
-          element-reference d = sym (element-reading ∙ rw (a, b, c, d))
+          pub element-reference : isNameOrBlank (field s p (s .width + (1 + s .width))) ≡ false → Refused ≡ readingOf s p
+          unfolding firstField class byte parentField referenceField
+          element-reference d = sym (element-reading ∙ rw (element-form s p k, a, b, c, d))
 
-          pub element-read : isNameOrBlank (field s p (2 * s .width + 1)) ≡ true
-              → As (Element (record { name = p + 1; class = getD (s .bytes) (p + 1 + s .width) 0; parent = p + 1 + (s .width + 1); reference = p + 1 + (2 * s .width + 1) })) ≡ readingOf s p
-          unfolding isElementForm firstField class byte parentField referenceField elementOf
-          element-read d = sym (element-reading ∙ rw (a, b, c, d))
+          pub element-read : isNameOrBlank (field s p (s .width + (1 + s .width))) ≡ true
+              → As (Element (record { name = p + 1; class = getD (s .bytes) (p + 1 + s .width) 0; parent = p + 1 + (s .width + 1); reference = p + 1 + (s .width + (1 + s .width)) })) ≡ readingOf s p
+          unfolding firstField class byte parentField referenceField elementFields
+          element-read d = sym (element-reading ∙ rw (element-form s p k, a, b, c, d))
 
   -- 3
   module _ (k : kind s p ≡ 3) where
-    port-reading : readingOf s p ≡ cond (isPortForm s p) (As (Port (portOf s p))) Refused
-    unfolding readingOf isForm recordOf isModel isElement isPort
+    port-reading : readingOf s p ≡ cond (isForm s p) (As (Port (portFields s p))) Refused
+    unfolding readingOf recordOf isModel isElement isPort
     port-reading = rw k
 
     pub port-offset : s .width ≡ submodelOffset s p
-    unfolding submodelOffset isDeletion
-    port-offset = rw (k, submodelOffset)
+    unfolding submodelOffset
+    port-offset = rw k
 
     pub port-nameless : isName (field s p 0) ≡ false → Refused ≡ readingOf s p
-    unfolding isPortForm firstField
-    port-nameless a = sym (port-reading ∙ rw a)
+    unfolding firstField
+    port-nameless a = sym (port-reading ∙ rw (port-form s p k, a))
 
     module _ (a : isName (field s p 0) ≡ true) where
       pub port-submodel : isNameOrBlank (field s p (s .width)) ≡ false → Refused ≡ readingOf s p
-      unfolding isPortForm firstField submodelField
-      port-submodel b = sym (port-reading ∙ rw (a, ← port-offset, b))
+      unfolding firstField submodelField
+      port-submodel b = sym (port-reading ∙ rw (port-form s p k, a, ← port-offset, b))
 
       module _ (b : isNameOrBlank (field s p (s .width)) ≡ true) where
-        port-target : isPortForm s p ≡ isWay (way s p) && isName (targetField s p)
-        unfolding isPortForm firstField submodelField
-        port-target = rw (a, ap (λ (o : ℕ). isNameOrBlank (field s p o)) (sym port-offset) ∙ b)
+        port-target : isForm s p ≡ isWay (way s p) && isName (targetField s p)
+        unfolding firstField submodelField
+        port-target = rw (port-form s p k, a, ap (λ (o : ℕ). isNameOrBlank (field s p o)) (sym port-offset) ∙ b)
 
         pub port-untargeted : Unnamed ≡ targetReading s p → Refused ≡ readingOf s p
         port-untargeted h = sym (port-reading ∙ rw (port-target ∙ target-unnamed h))
 
         pub port-read : {t : Way} → Named t ≡ targetReading s p → As (Port (record { name = p + 1; submodel = p + 1 + s .width; target = t })) ≡ readingOf s p
-        unfolding portOf
+        unfolding portFields
         port-read {t} h = let r = target-named h in sym (port-reading ∙ rw (port-target ∙ r .0, r .1, ← port-offset))
 
   -- 4
   module _ (k : kind s p ≡ 4) where
-    submodel-reading : readingOf s p ≡ cond (isSubmodelForm s p) (As (Submodel (submodelOf s p))) Refused
-    unfolding readingOf isForm recordOf isModel isElement isPort isSubmodel
+    submodel-reading : readingOf s p ≡ cond (isForm s p) (As (Submodel (submodelFields s p))) Refused
+    unfolding readingOf recordOf isModel isElement isPort isSubmodel
     submodel-reading = rw k
 
     pub submodel-nameless : isName (field s p 0) ≡ false → Refused ≡ readingOf s p
-    unfolding isSubmodelForm firstField
-    submodel-nameless a = sym (submodel-reading ∙ rw a)
+    unfolding firstField
+    submodel-nameless a = sym (submodel-reading ∙ rw (submodel-form s p k, a))
 
     module _ {n : ℕ} (a : Name n ≡ fieldOf (field s p 0)) where
       pub submodel-underscore : getD (s .bytes) (p + n) 0 ≡ 95 → Refused ≡ readingOf s p
-      unfolding isSubmodelForm firstField endsWithUnderscore underscore
-      submodel-underscore h = sym (submodel-reading ∙ rw (is-name (field s p 0) a, last-byte a, eq-eqb (getD (s .bytes) (p + n) 0) 95 h))
+      unfolding firstField endsWithUnderscore underscore
+      submodel-underscore h = sym (submodel-reading ∙ rw (submodel-form s p k, is-name (field s p 0) a, last-byte a, eq-eqb (getD (s .bytes) (p + n) 0) 95 h))
 
       module _ (h : getD (s .bytes) (p + n) 0 ≡ 95 → ⊥) where
-        submodel-model : isSubmodelForm s p ≡ isName (field s p (s .width))
-        unfolding isSubmodelForm firstField modelField endsWithUnderscore underscore
-        submodel-model = rw (is-name (field s p 0) a, last-byte a, ne-eqb (getD (s .bytes) (p + n) 0) 95 h)
+        submodel-model : isForm s p ≡ isName (field s p (s .width))
+        unfolding firstField modelField endsWithUnderscore underscore
+        submodel-model = rw (submodel-form s p k, is-name (field s p 0) a, last-byte a, ne-eqb (getD (s .bytes) (p + n) 0) 95 h)
 
         pub submodel-modelless : isName (field s p (s .width)) ≡ false → Refused ≡ readingOf s p
         submodel-modelless b = sym (submodel-reading ∙ rw (submodel-model ∙ b))
 
         pub submodel-read : isName (field s p (s .width)) ≡ true → As (Submodel (record { name = p + 1; model = p + 1 + s .width })) ≡ readingOf s p
-        unfolding submodelOf
+        unfolding submodelFields
         submodel-read b = sym (submodel-reading ∙ rw (submodel-model ∙ b))
 
   -- 5 to 7
-  pub mark-nameless : isName (field s p 0) ≡ false → Unmarked ≡ markReading s p
-  unfolding markReading isMarkForm firstField
-  mark-nameless a = rw a
+  module _ (m : isMark s p ≡ true) where
+    pub mark-nameless : isName (field s p 0) ≡ false → Unmarked ≡ markReading s p
+    unfolding markReading firstField
+    mark-nameless a = rw (mark-form s p m, a)
 
-  module _ (k : ℕ) (begins : k ≡ submodelOffset s p) (a : isName (field s p 0) ≡ true) where
-    pub mark-submodelless : isName (field s p k) ≡ false → Unmarked ≡ markReading s p
-    unfolding markReading isMarkForm firstField submodelField
-    mark-submodelless b = rw (a, ← begins, b)
+    module _ (k : ℕ) (begins : k ≡ submodelOffset s p) (a : isName (field s p 0) ≡ true) where
+      pub mark-submodelless : isName (field s p k) ≡ false → Unmarked ≡ markReading s p
+      unfolding markReading firstField submodelField
+      mark-submodelless b = rw (mark-form s p m, a, ← begins, b)
 
-    module _ (b : isName (field s p k) ≡ true) where
-      mark-target : isMarkForm s p ≡ isWay (way s p) && isName (targetField s p)
-      unfolding isMarkForm firstField submodelField
-      mark-target = rw (a, ap (λ (o : ℕ). isName (field s p o)) (sym begins) ∙ b)
+      module _ (b : isName (field s p k) ≡ true) where
+        mark-end : isForm s p ≡ isWay (way s p) && isName (targetField s p)
+        unfolding firstField submodelField
+        mark-end = rw (mark-form s p m, a, ap (λ (o : ℕ). isName (field s p o)) (sym begins) ∙ b)
 
-      pub mark-untargeted : Unnamed ≡ targetReading s p → Unmarked ≡ markReading s p
-      unfolding markReading
-      mark-untargeted h = rw (mark-target ∙ target-unnamed h)
+        pub mark-untargeted : Unnamed ≡ targetReading s p → Unmarked ≡ markReading s p
+        unfolding markReading
+        mark-untargeted h = rw (mark-end ∙ target-unnamed h)
 
-      pub mark-read : {t : Way} → Named t ≡ targetReading s p → Marks (record { owner = p + 1; submodel = p + 1 + k; target = t }) ≡ markReading s p
-      unfolding markReading markOf
-      mark-read {t} h = let r = target-named h in rw (mark-target ∙ r .0, r .1, ← begins)
+        pub mark-read : {t : Way} → Named t ≡ targetReading s p → Marks (record { owner = p + 1; submodel = p + 1 + k; target = t }) ≡ markReading s p
+        unfolding markReading markFields
+        mark-read {t} h = let r = target-named h in rw (mark-end ∙ r .0, r .1, ← begins)
 
 -- ---- a part of the recipe, as the field there
 pub field-part : (w : ℕ) (t : List ℕ) (p k : ℕ) → take (p + 1 + k + w - (p + 1 + k)) (drop (p + 1 + k) t) ≡ field (record { width = w; bytes = t }) p k
@@ -330,11 +352,24 @@ module _ (s : Recipe) (p : ℕ) where
       (λ f. rw f)
       (λ f. let g : As r ≡ Refused = rw f at e in let z : _≡_ {A = ℕ} 0 1 = cc in absurd (omega arith))
 
-  pub refused-form : Refused ≡ readingOf s p → not (isForm s p) ≡ true
+  -- a record that row 2 does not refuse has one of the kinds
+  record-known : isReadable s p ≡ true → (r : Record) × (recordOf s p ≡ As r)
+  unfolding isReadable recordOf isModel isElement isPort isSubmodel isDeletion isReplacement isReplacedBy
+  record-known e =
+      by-kind (λ k. kind s p ≡ k → (r : Record) × (recordOf s p ≡ As r))
+      (λ k. (Model (p + 1), rw k)) (λ k. (Element (elementFields s p), rw k)) (λ k. (Port (portFields s p), rw k)) (λ k. (Submodel (submodelFields s p), rw k))
+      (λ k. (Deletion (markFields s p), rw k)) (λ k. (Replacement (markFields s p), rw k)) (λ k. (ReplacedBy (markFields s p), rw k))
+      (kind s p) (known s p e) refl
+
+  pub refused-form : isReadable s p ≡ true → Refused ≡ readingOf s p → not (isForm s p) ≡ true
   unfolding readingOf
-  refused-form e =
+  refused-form h e =
       by-cases (isForm s p)
-      (λ f. let g : Refused ≡ As (recordOf s p) = rw f at e in let z : _≡_ {A = ℕ} 0 1 = cc in absurd (omega arith))
+      (λ f.
+      let r = record-known h in
+      let g : Refused ≡ As (r .0) = rw f at e ∙ r .1 in
+      let z : _≡_ {A = ℕ} 0 1 = cc in
+      absurd (omega arith))
       (λ f. rw f)
 
 -- row 3, as a loop finds it

@@ -1,19 +1,18 @@
 -- A loop over the records of a recipe that stops at the first that passes a test: what is left of it at p.
 -- Assumes nothing.
-use mathlib.Core.Path.{_≡_, refl, ap, _∙_, sym}
+use mathlib.Core.Path.{_≡_, refl, ap, _∙_}
 use mathlib.Core.Logic.{inl, inr}
 use Prim.Native.Nat.{ℕ, zero, suc, _+_, _≤_, _<_}
 use native.Mathlib.Omega.{arith}
-use mathlib.Core.Bool.{Bool, true, false, _&&_, _||_}
+use mathlib.Core.Bool.{Bool, true, false}
 use mathlib.Core.Option.{none, some}
 use mathlib.Core.List.{[], _∷_}
 use lib.ListN.{length, getD}
 use Rattle.names.specs.Lists.{In, first}
-use Rattle.names.proofs.Tests.{by-cases, and-left, and-right}
-use Rattle.recipe.specs.Records.{Recipe, kind, recordLength, next, isReadable, placesFrom, stopFrom, places, stop, isDeletion, isElement, isKnown, isMark, isPort, isReplacedBy, isReplacement}
+use Rattle.names.proofs.Tests.{by-cases}
+use Rattle.recipe.specs.Records.{Recipe, kind, recordLength, next, isReadable, placesFrom, stopFrom, places, stop, isElement}
 use Rattle.recipe.proofs.Reading.{readable-fits, next-more, unread, readable, whole}
-use borrow.Author.Tests.{eqb-false, eqb-true, leb-false, leb-true, lt-leb, ne-eqb}
-use lib.Dec.{eqb, leb}
+use borrow.Author.Tests.{eqb-true}
 use Rattle.recipe.proofs.RecordLengths.{length-three}
 
 -- at p, a place or the end: the tries left, and what is left to scan
@@ -92,43 +91,6 @@ on-fits {s} {t} {p} {n} h l = rw l (here-fits h)
 pub on-more : (w k : ℕ) {n : ℕ} → n ≡ recordLength w k → 1 ≤ n
 unfolding recordLength
 on-more w k {n} l = omega arith
-
--- a readable record's kind is at most 7, so that the test for a mark or port is one of numbers
-pub pointer-kind : (s : Recipe) (p : ℕ) → isReadable s p ≡ true → isMark s p || isPort s p ≡ eqb (kind s p) 3 || leb 5 (kind s p)
-unfolding isReadable isKnown isMark isPort isDeletion isReplacement isReplacedBy
-pointer-kind s p e =
-    let k = kind s p in
-    let K = and-left (isKnown k) _ (and-left (isKnown k && leb (next s p) (length (s .bytes))) _ e) in
-    let lo = leb-true 1 k (and-left (leb 1 k) _ K) in
-    let hi = leb-true k 7 (and-right (leb 1 k) _ K) in
-    cases k hi
-  where
-    cases : (k : ℕ) → k ≤ 7 → eqb k 5 || eqb k 6 || eqb k 7 || eqb k 3 ≡ eqb k 3 || leb 5 k
-    cases k h =
-        by-cases (leb 5 k)
-        (λ e. let l = leb-true 5 k e in by-cases (eqb k 5) (λ x. rw (eqb-true k 5 x)) (λ x. by-cases (eqb k 6) (λ y. rw (eqb-true k 6 y)) (λ y. let q : k ≡ 7 = seven k h l x y in rw q)))
-        (λ e. let l = leb-false 5 k e in rw (e, ne-eqb k 5 (λ z. omega arith), ne-eqb k 6 (λ z. omega arith), ne-eqb k 7 (λ z. omega arith)) (sym (or-f (eqb k 3))))
-      where
-        or-f : (b : Bool) → b || false ≡ b
-        or-f true = refl
-        or-f false = refl
-
-        seven : (j : ℕ) → j ≤ 7 → 5 ≤ j → eqb j 5 ≡ false → eqb j 6 ≡ false → j ≡ 7
-        seven j a b x y = omega (arith, eqb-false j 5 x, eqb-false j 6 y)
-
--- a record that is read has a kind of at most 7, so that the test for a mark with an owner is one of numbers
-pub owning-kind : (s : Recipe) (p : ℕ) → isReadable s p ≡ true → isReplacement s p || isReplacedBy s p ≡ leb 6 (kind s p)
-unfolding isReadable isKnown isReplacement isReplacedBy
-owning-kind s p e =
-    let k = kind s p in
-    let K = and-left (isKnown k) _ (and-left (isKnown k && leb (next s p) (length (s .bytes))) _ e) in
-    cases k (leb-true k 7 (and-right (leb 1 k) _ K))
-  where
-    cases : (k : ℕ) → k ≤ 7 → eqb k 6 || eqb k 7 ≡ leb 6 k
-    cases k h =
-        by-cases (eqb k 6) (λ x. rw (eqb-true k 6 x))
-        (λ x. by-cases (eqb k 7) (λ y. rw (eqb-true k 7 y))
-        (λ y. rw (x, y) (sym (lt-leb 6 k (omega (arith, eqb-false k 6 x, eqb-false k 7 y))))))
 
 -- an element's class byte is in the recipe
 pub class-low : (s : Recipe) (e : ℕ) → In e (places s) → isElement s e ≡ true → e + 1 + s .width < length (s .bytes)

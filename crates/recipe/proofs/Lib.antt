@@ -1,4 +1,5 @@
 -- The laws of recipes: reading the records, definitions, reaching, and what rows 1 to 6 say where they do not apply.
+pub mod Bodies
 pub mod Reading
 pub mod RecordLengths
 pub mod Going

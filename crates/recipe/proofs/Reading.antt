@@ -4,14 +4,14 @@ use mathlib.Core.Path.{_≡_, refl, sym, ap, _∙_}
 use mathlib.Core.Logic.{⊎-elim}
 use Prim.Native.Nat.{ℕ, zero, suc, _+_, _≤_, _<_}
 use native.Mathlib.Omega.{arith}
-use mathlib.Core.Bool.{Bool, true, false, _&&_, _||_, false≢true}
+use mathlib.Core.Bool.{Bool, true, false, _&&_, _||_, false≢true, and-false}
 use mathlib.Core.Option.{none, some}
 use mathlib.Core.List.{List, _∷_}
 use lib.ListN.{length, List·getD-eq-default}
 use lib.Dec.{leb, ltb}
 use borrow.Author.Tests.{ltb-false, leb-true, lt-leb, le-leb, eq-eqb, ne-eqb}
 use Rattle.names.specs.Lists.{In, first}
-use Rattle.names.proofs.Tests.{by-cases, not-none, and-left, and-right, or-cases, and-false}
+use Rattle.names.proofs.Tests.{by-cases, not-none, and-left, and-right, or-cases}
 use Rattle.names.proofs.ListOrder.{Rising, rising-from, rising-in, first-lowest}
 use Rattle.recipe.specs.Records.{Recipe, isKnown, kind, isModel, recordLength, next, isReadable, placesFrom, stopFrom, places, stop}
 use Rattle.recipe.specs.Reading.{fault₂}
@@ -23,6 +23,10 @@ module _ (s : Recipe) where
   readable-fits p e =
       leb-true (next s p) (length (s .bytes))
       (and-right (isKnown (kind s p)) _ (and-left (isKnown (kind s p) && leb (next s p) (length (s .bytes))) _ e))
+
+  pub known : (p : ℕ) → isReadable s p ≡ true → isKnown (kind s p) ≡ true
+  unfolding isReadable
+  known p e = and-left (isKnown (kind s p)) _ (and-left (isKnown (kind s p) && leb (next s p) (length (s .bytes))) _ e)
 
   pub next-more : (p : ℕ) → p < next s p
   unfolding next recordLength
@@ -170,7 +174,7 @@ module _ (s : Recipe) where
       go (suc n) = rw (e, stopFrom)
 
   -- ---- the test, case by case
-  unknown : (p : ℕ) → isKnown (kind s p) ≡ false → false ≡ isReadable s p
+  pub unknown : (p : ℕ) → isKnown (kind s p) ≡ false → false ≡ isReadable s p
   unfolding isReadable
   unknown p e = rw e
 
@@ -178,29 +182,21 @@ module _ (s : Recipe) where
   unfolding isKnown kind
   not-past p h = unknown p (rw (List·getD-eq-default (s .bytes) 0 h))
 
-  pub not-low : (p : ℕ) → kind s p < 1 → false ≡ isReadable s p
-  unfolding isKnown
-  not-low p h = unknown p (rw (lt-leb 1 (kind s p) h))
-
-  pub not-high : (p : ℕ) → 7 < kind s p → false ≡ isReadable s p
-  unfolding isKnown
-  not-high p h = unknown p (rw (lt-leb (kind s p) 7 h) (and-false (leb 1 (kind s p))))
-
   pub not-whole : (p : ℕ) → length (s .bytes) < next s p → false ≡ isReadable s p
   unfolding isReadable
   not-whole p h = rw (lt-leb (next s p) (length (s .bytes)) h, and-false (isKnown (kind s p)))
 
-  pub whole : (p : ℕ) → 1 ≤ kind s p → kind s p ≤ 7 → next s p ≤ length (s .bytes) → isModel s p || ltb 0 p ≡ isReadable s p
-  unfolding isReadable isKnown
-  whole p a b c = rw (le-leb 1 (kind s p) a, le-leb (kind s p) 7 b, le-leb (next s p) (length (s .bytes)) c)
+  pub whole : (p : ℕ) → isKnown (kind s p) ≡ true → next s p ≤ length (s .bytes) → isModel s p || ltb 0 p ≡ isReadable s p
+  unfolding isReadable
+  whole p k c = rw (k, le-leb (next s p) (length (s .bytes)) c)
 
-  pub whole-model : (p : ℕ) → kind s p ≡ 1 → next s p ≤ length (s .bytes) → true ≡ isReadable s p
+  pub whole-model : (p : ℕ) → kind s p ≡ 1 → isKnown (kind s p) ≡ true → next s p ≤ length (s .bytes) → true ≡ isReadable s p
   unfolding isModel
-  whole-model p k c = rw (eq-eqb (kind s p) 1 k) at (whole p (omega arith) (omega arith) c)
+  whole-model p k i c = rw (eq-eqb (kind s p) 1 k) at (whole p i c)
 
-  pub whole-other : (p : ℕ) → (kind s p ≡ 1 → ⊥) → 1 ≤ kind s p → kind s p ≤ 7 → next s p ≤ length (s .bytes) → ltb 0 p ≡ isReadable s p
+  pub whole-other : (p : ℕ) → (kind s p ≡ 1 → ⊥) → isKnown (kind s p) ≡ true → next s p ≤ length (s .bytes) → ltb 0 p ≡ isReadable s p
   unfolding isModel
-  whole-other p k a b c = rw (ne-eqb (kind s p) 1 k) at (whole p a b c)
+  whole-other p k i c = rw (ne-eqb (kind s p) 1 k) at (whole p i c)
 
   -- the first record is a model
   pub first-model : isReadable s 0 ≡ true → isModel s 0 ≡ true

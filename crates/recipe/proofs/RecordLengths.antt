@@ -3,24 +3,25 @@
 use mathlib.Core.Path.{_≡_}
 use Prim.Native.Nat.{ℕ, zero, suc, _+_, _*_, _≤_, _<_}
 use native.Mathlib.Omega.{arith}
+use mathlib.Core.List.{[]}
 use lib.ListN.{List·getD-eq-default}
-use Rattle.recipe.specs.Records.{bodyLengths, recordLength}
+use Rattle.recipe.specs.Records.{bodies, recordLength}
 
 pub length-model : (w : ℕ) {k : ℕ} → k ≡ 1 → 1 + w ≡ recordLength w k
-unfolding recordLength bodyLengths
+unfolding recordLength
 length-model w e = rw e
 
 pub length-submodel : (w : ℕ) {k : ℕ} → k ≡ 4 → 1 + 2 * w ≡ recordLength w k
-unfolding recordLength bodyLengths
-length-submodel w e = rw e
+unfolding recordLength
+length-submodel w e = rw e (omega arith)
 
 pub length-deletion : (w : ℕ) {k : ℕ} → k ≡ 5 → 2 + 2 * w ≡ recordLength w k
-unfolding recordLength bodyLengths
+unfolding recordLength
 length-deletion w e = rw e (omega arith)
 
 -- the kinds with three name fields: 2, 3, 6 and 7
 pub length-three : (w k : ℕ) → 1 ≤ k → k < 8 → (k ≡ 1 → ⊥) → (k ≡ 4 → ⊥) → (k ≡ 5 → ⊥) → 2 + 3 * w ≡ recordLength w k
-unfolding recordLength bodyLengths
+unfolding recordLength
 length-three w zero a b p q r = absurd (omega arith)
 length-three w (suc zero) a b p q r = absurd (p (omega arith))
 length-three w (suc (suc zero)) a b p q r = omega arith
@@ -32,10 +33,10 @@ length-three w (suc (suc (suc (suc (suc (suc (suc zero))))))) a b p q r = omega 
 length-three w (suc (suc (suc (suc (suc (suc (suc (suc k)))))))) a b p q r = absurd (omega arith)
 
 pub length-none : (w k : ℕ) → k < 1 → 1 ≡ recordLength w k
-unfolding recordLength bodyLengths
+unfolding recordLength
 length-none w zero h = omega arith
 length-none w (suc k) h = absurd (omega arith)
 
 pub length-past : (w k : ℕ) → 8 ≤ k → 1 ≡ recordLength w k
-unfolding recordLength bodyLengths
-length-past w k h = rw (List·getD-eq-default (bodyLengths w) 0 h)
+unfolding recordLength
+length-past w k h = rw (List·getD-eq-default bodies [] h)

@@ -1,7 +1,7 @@
 -- What each of rows 3 to 6 says of a recipe that it does not refuse: forms, names used once, what is declared, no definition in itself.
 -- Assumes nothing.
 use mathlib.Core.Path.{_≡_, refl, sym, ap, _∙_}
-use mathlib.Core.Logic.{_⊎_, inl, inr, ⊎-elim}
+use mathlib.Core.Logic.{_⊎_, inl, inr}
 use Prim.Native.Nat.{ℕ, _≤_, _<_}
 use native.Mathlib.Omega.{arith}
 use mathlib.Core.Bool.{Bool, true, false, not, _&&_, _||_, true≢false}
@@ -11,14 +11,16 @@ use lib.Dec.{eqb, ltb}
 use borrow.Author.Tests.{eqb-true, eqb-false, ltb-true, lt-ltb, eq-eqb, not-true, not-false}
 use Rattle.names.specs.Lists.{In, any, isSome, lastOr, same}
 use Rattle.names.specs.Names.{text, isBlank, isName, isNameOrBlank, areNameCharacters, underscore}
-use Rattle.names.proofs.Tests.{by-option, not-both, not-none, three, and-left, and-right, both, or-left, or-right, or-cases, or-none-left, or-none-right, is-some}
+use Rattle.names.proofs.Tests.{by-option, not-both, not-none, three, and-left, and-right, both, or-left, or-right, or-none-left, or-none-right, is-some}
 use Rattle.names.proofs.Lists.{none-first, not-any, same-refl}
 use Rattle.names.proofs.Names.{name-not-blank, name-characters, some-character}
 use Rattle.flat_table.specs.Classes.{isClass, parentAllowed}
 use Rattle.recipe.specs.Records.{Recipe, kind, places, isModel, isElement, isPort, isSubmodel, isDeletion, isReplacement, isReplacedBy, isMark, firstField, name, class, parentField, referenceField, submodelField, way, targetField}
 use Rattle.recipe.specs.Definitions.{definitions, holder, elements, submodels, isDeclared, elementNamed, ownerOf, elementIn}
 use Rattle.recipe.specs.Reaching.{reaches, Reach}
-use Rattle.recipe.specs.Reading.{atStart, mostBytes, fault₁, endsWithUnderscore, isWay, isElementForm, isSubmodelForm, isMarkForm, isForm, fault₃, shareNames, repeats, fault₄, isParent, isParentFault, isOwnPortFault, isSubmodelFieldFault, isOwnerFault, isPortFault, isUndeclared, fault₅, fault₆}
+use Rattle.recipe.specs.Reading.{atStart, mostBytes, fault₁, endsWithUnderscore, isForm, fault₃, shareNames, repeats, fault₄, isParent, isParentFault, isOwnPortFault, isSubmodelFieldFault, isOwnerFault, isPortFault, isUndeclared, fault₅, fault₆}
+use Rattle.recipe.proofs.Bodies.{element-form, submodel-form, mark-form, first-reads}
+use Rattle.recipe.proofs.Reading.{known, readable}
 use Rattle.recipe.proofs.Definitions.{in-elements, in-submodels, element-named}
 use Rattle.recipe.proofs.Reaching.{plain-reaches}
 
@@ -39,16 +41,6 @@ length-passed s e = rw e
 
 module _ (s : Recipe) where
   -- ---- kinds
-  pub mark-kind : (p : ℕ) → isMark s p ≡ true → (kind s p ≡ 5) ⊎ ((kind s p ≡ 6) ⊎ (kind s p ≡ 7))
-  unfolding isMark isDeletion isReplacement isReplacedBy
-  mark-kind p k =
-      ⊎-elim
-      (λ (e : isDeletion s p || isReplacement s p ≡ true).
-      ⊎-elim (λ (f : isDeletion s p ≡ true). inl (eqb-true (kind s p) 5 f)) (λ (f : isReplacement s p ≡ true). inr (inl (eqb-true (kind s p) 6 f)))
-      (or-cases (isDeletion s p) (isReplacement s p) e))
-      (λ (f : isReplacedBy s p ≡ true). inr (inr (eqb-true (kind s p) 7 f)))
-      (or-cases (isDeletion s p || isReplacement s p) (isReplacedBy s p) k)
-
   pub replaced-by-mark : (p : ℕ) → isReplacedBy s p ≡ true → isMark s p ≡ true
   unfolding isMark
   replaced-by-mark p e = or-right (isDeletion s p || isReplacement s p) (isReplacedBy s p) e
@@ -66,41 +58,29 @@ module _ (s : Recipe) where
       let m : kind s q ≡ kind s r = ap (kind s) e in
       omega arith
 
-  -- the form of a record, by its kind
-  mark-form : (p : ℕ) → isMark s p ≡ true → isForm s p ≡ true → isMarkForm s p ≡ true
-  unfolding isForm isModel isElement isPort isSubmodel
-  mark-form p k f =
-      ⊎-elim (λ (e : kind s p ≡ 5). rw e at f) (⊎-elim (λ (e : kind s p ≡ 6). rw e at f) (λ (e : kind s p ≡ 7). rw e at f)) (mark-kind p k)
-
-  submodel-form : (p : ℕ) → isSubmodel s p ≡ true → isForm s p ≡ true → isSubmodelForm s p ≡ true
-  unfolding isForm isModel isElement isPort isSubmodel
-  submodel-form p k f = rw (eqb-true (kind s p) 4 k) at f
-
-  element-form : (p : ℕ) → isElement s p ≡ true → isForm s p ≡ true → isElementForm s p ≡ true
-  unfolding isForm isModel isElement
-  element-form p k f = rw (eqb-true (kind s p) 2 k) at f
-
   -- ---- row 3
   module _ (h₃ : fault₃ s ≡ none) where
     form : (p : ℕ) → In p (places s) → isForm s p ≡ true
     unfolding fault₃
     form p i = not-false (isForm s p) (none-first (λ q. not (isForm s q)) (places s) p h₃ i)
 
+    -- the first field of each record is a name
+    pub first-name : (p : ℕ) → In p (places s) → isName (firstField s p) ≡ true
+    first-name p i = first-reads s p (known s p (readable s p i)) (form p i)
+
     -- a mark names a submodel
     pub mark-submodel : (p : ℕ) → In p (places s) → isMark s p ≡ true → isBlank (submodelField s p) ≡ false
-    unfolding isMarkForm
     mark-submodel p i k =
         name-not-blank (submodelField s p)
-        (and-right (isName (firstField s p)) _
-        (and-left (isName (firstField s p) && isName (submodelField s p)) _
-        (and-left (isName (firstField s p) && isName (submodelField s p) && isWay (way s p)) _ (mark-form p k (form p i)))))
+        (and-left (isName (submodelField s p)) _ (and-right (isName (firstField s p)) _ (sym (mark-form s p k) ∙ form p i)))
 
     -- a submodel's name is one, and does not end with an underscore
     name-form : (d m : ℕ) → In m (submodels s d) → isName (firstField s m) && not (endsWithUnderscore (name s m)) ≡ true
-    unfolding isSubmodelForm
+    unfolding isSubmodel
     name-form d m i =
         let r = in-submodels s d m i in
-        and-left (isName (firstField s m) && not (endsWithUnderscore (name s m))) _ (submodel-form m (r .passes) (form m (r .placed)))
+        and-left (isName (firstField s m) && not (endsWithUnderscore (name s m))) _
+        (sym (submodel-form s m (eqb-true (kind s m) 4 (r .passes))) ∙ form m (r .placed))
 
     pub submodel-characters : (d m : ℕ) → In m (submodels s d) → areNameCharacters (name s m) ≡ true
     unfolding name
@@ -121,20 +101,17 @@ module _ (s : Recipe) where
       pub reference : isNameOrBlank (referenceField s e) ≡ true
 
     pub element-reads : (d e : ℕ) → In e (elements s d) → ElementForm e
-    unfolding isElementForm name
+    unfolding isElement name
     element-reads d e i =
         let r = in-elements s d e i in
-        let f : isElementForm s e ≡ true = element-form e (r .passes) (form e (r .placed)) in
-        let n : Bool = isName (firstField s e) in
-        let c : Bool = isClass (class s e) in
-        let p : Bool = isNameOrBlank (parentField s e) in
-        let ncp : n && c && p ≡ true = and-left (n && c && p) _ f in
-        let nc : n && c ≡ true = and-left (n && c) _ ncp in
+        let f = sym (element-form s e (eqb-true (kind s e) 2 (r .passes))) ∙ form e (r .placed) in
+        let g = and-right (isName (firstField s e)) _ f in
+        let h = and-right (isClass (class s e)) _ g in
         record {
-          characters = name-characters (firstField s e) (and-left n _ nc);
-          classed = and-right n c nc;
-          parent = and-right (n && c) p ncp;
-          reference = and-right (n && c && p) _ f;
+          characters = name-characters (firstField s e) (and-left (isName (firstField s e)) _ f);
+          classed = and-left (isClass (class s e)) _ g;
+          parent = and-left (isNameOrBlank (parentField s e)) _ h;
+          reference = and-right (isNameOrBlank (parentField s e)) _ h;
         }
 
   -- ---- row 4
@@ -183,7 +160,7 @@ module _ (s : Recipe) where
     declared p i = none-first (isUndeclared s) (places s) p h₅ i
 
     -- "owner no element, of the definition" does not apply
-    owner-of : (p : ℕ) → isDeletion s p ≡ false → isOwnerFault s p ≡ false → In (ownerOf s p) (elements s (holder s p))
+    owner-of : (p : ℕ) → isReplacement s p || isReplacedBy s p ≡ true → isOwnerFault s p ≡ false → In (ownerOf s p) (elements s (holder s p))
     unfolding isOwnerFault ownerOf
     owner-of p n h =
         let e = is-some (elementNamed s (holder s p) (text (firstField s p)))
@@ -191,7 +168,7 @@ module _ (s : Recipe) where
         rw (e .1) (element-named s (holder s p) (text (firstField s p)) (e .0) (e .1) .0)
 
     pub owner-element : (p : ℕ) → In p (places s) → (isReplacement s p ≡ true) ⊎ (isReplacedBy s p ≡ true) → In (ownerOf s p) (elements s (holder s p))
-    unfolding isUndeclared isModel isElement isPort isSubmodel isDeletion isReplacement isReplacedBy
+    unfolding isUndeclared isModel isElement isPort isSubmodel isMark isDeletion isReplacement isReplacedBy
     owner-element p i (inl b) =
         let k : kind s p ≡ 6 = eqb-true (kind s p) 6 b in
         owner-of p (rw k) (or-none-right (isSubmodelFieldFault s p) _ (rw k at (declared p i)))
@@ -201,7 +178,7 @@ module _ (s : Recipe) where
 
     -- by its name
     pub owner-name : (p : ℕ) → In p (places s) → isReplacedBy s p ≡ true → name s (ownerOf s p) ≡ text (firstField s p)
-    unfolding isUndeclared isOwnerFault isModel isElement isPort isSubmodel isDeletion isReplacedBy ownerOf
+    unfolding isUndeclared isOwnerFault isModel isElement isPort isSubmodel isMark isDeletion isReplacement isReplacedBy ownerOf
     owner-name p i b =
         let k : kind s p ≡ 7 = eqb-true (kind s p) 7 b in
         let o = elementNamed s (holder s p) (text (firstField s p)) in

@@ -4,14 +4,14 @@ use Prim.Native.Nat.{_+_, _<_, _≤_, suc, zero, ℕ}
 use borrow.Author.Tests.{eq-eqb, eqb-true, le-leb, leb-true}
 use lib.Dec.{eqb, leb}
 use lib.ListN.{length}
-use mathlib.Core.Bool.{Bool, _&&_, false, not, true}
+use mathlib.Core.Bool.{Bool, _&&_, false, not, true, and-false}
 use mathlib.Core.List.{List, [], _∷_}
 use mathlib.Core.Logic.{inl, inr, ⊎-elim}
 use mathlib.Core.Path.{_∙_, _≡_, ap, refl, sym}
 use native.Mathlib.Omega.{arith}
 use Rattle.names.specs.Lists.{In, keep, lastOr}
 use Rattle.names.proofs.Lists.{in-keep, keep-in, last-in}
-use Rattle.names.proofs.Tests.{and-false, by-cases}
+use Rattle.names.proofs.Tests.{by-cases}
 use Rattle.names.proofs.ListOrder.{Rising, keep-rising}
 use Rattle.recipe.specs.Definitions.{definitions, holder, main, recordsOf, submodels}
 use Rattle.recipe.specs.Records.{Recipe, isModel, isReadable, isSubmodel, next, places, placesFrom, stop, stopFrom}

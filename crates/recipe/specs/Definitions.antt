@@ -1,13 +1,13 @@
 -- Definitions, and what is looked up in one by its name. A definition is named by the place of its kind 1 record.
 -- Assumes nothing.
 use Prim.Native.Nat.{ℕ}
-use mathlib.Core.Bool.{Bool, true, false, not, _&&_, _||_}
+use mathlib.Core.Bool.{Bool, true, false, cond, not, _&&_, _||_}
 use mathlib.Core.Option.{Option, none, Option·getD}
 use mathlib.Core.List.{List}
 use lib.Dec.{leb, eqb}
 use Rattle.names.specs.Lists.{keep, first, lastOr, same}
 use Rattle.names.specs.Names.{text, isBlank}
-use Rattle.recipe.specs.Records.{Recipe, places, isModel, isElement, isPort, isSubmodel, name, modelField, firstField}
+use Rattle.recipe.specs.Records.{Recipe, places, isModel, isElement, isPort, isSubmodel, name, modelField, firstField, submodelField, way, targetField}
 
 -- "The first definition is main"
 unfoldable pub main : ℕ
@@ -72,3 +72,16 @@ ownerOf s r = Option·getD (elementNamed s (holder s r) (text (firstField s r)))
 -- the element that a parent or reference field f of the element e names, if it is filled
 unfoldable pub elementIn : Recipe → ℕ → List ℕ → Option ℕ
 elementIn s e f = elim (isBlank f) [ true ↦ none | false ↦ elementNamed s (holder s e) (text f) ]
+
+-- the submodel that a port or mark names (0 where there is none, which row 5 refuses)
+unfoldable pub submodelOf : Recipe → ℕ → ℕ
+submodelOf s r = Option·getD (submodelNamed s (holder s r) (text (submodelField s r))) 0
+
+-- "names its target by element name or by port name": the record that the port or mark at r names, an element or a port
+unfoldable pub namedBy : Recipe → ℕ → Option ℕ
+namedBy s r =
+    cond (isBlank (submodelField s r))
+    (elementNamed s (holder s r) (text (targetField s r)))
+    (cond (eqb (way s r) 0)
+    (elementNamed s (modelOf s (submodelOf s r)) (text (targetField s r)))
+    (portNamed s (modelOf s (submodelOf s r)) (text (targetField s r))))

@@ -1,13 +1,13 @@
 -- What the record at a place reads as: the case of its kind, with the offsets of its fields. Row 3 refuses it where a field does not read.
 -- Assumes nothing.
 use mathlib.Core.Path.{_≡_}
-use Prim.Native.Nat.{ℕ, _+_, _*_, _≤_}
-use mathlib.Core.Bool.{cond, _&&_}
+use Prim.Native.Nat.{ℕ, _+_, _≤_}
+use mathlib.Core.Bool.{true, cond, _&&_}
 use lib.ListN.{length}
 use lib.Dec.{eqb}
 use Rattle.names.specs.Names.{isName}
-use Rattle.recipe.specs.Records.{Recipe, kind, isModel, isElement, isPort, isSubmodel, isDeletion, isReplacement, class, submodelOffset, way, targetField}
-use Rattle.recipe.specs.Reading.{isWay, isMarkForm, isForm}
+use Rattle.recipe.specs.Records.{Recipe, partOffset, kind, isModel, isElement, isPort, isSubmodel, isDeletion, isReplacement, isReplacedBy, markKind, next, class, submodelOffset, way, targetField}
+use Rattle.recipe.specs.Reading.{isWay, isForm}
 use Rattle.recipe.specs.declared.Way.{Way}
 use Rattle.recipe.specs.declared.Way.the-variants.{ByElement, ByPort}
 use Rattle.recipe.specs.declared.Target.{Target}
@@ -18,7 +18,6 @@ use Rattle.recipe.specs.declared.SubmodelFields.{SubmodelFields}
 use Rattle.recipe.specs.declared.Mark.{Mark}
 use Rattle.recipe.specs.declared.Marked.{Marked}
 use Rattle.recipe.specs.declared.Marked.the-variants.{Marks, Unmarked}
-use Rattle.recipe.specs.declared.Record.{Record}
 use Rattle.recipe.specs.declared.Record.the-variants.{Model, Element, Port, Submodel, Deletion, Replacement, ReplacedBy}
 use Rattle.recipe.specs.declared.Read.{Read}
 use Rattle.recipe.specs.declared.Read.the-variants.{As, Refused}
@@ -40,40 +39,41 @@ unfoldable pub targetReading : Recipe → ℕ → Target
 targetReading s p = cond (isWay (way s p) && isName (targetField s p)) (Named (wayOf s p)) Unnamed
 
 -- kind 2: "name, class byte, parent or blank, reference or blank"
-unfoldable pub elementOf : Recipe → ℕ → ElementFields
-elementOf s p =
-    record { name = p + 1; class = class s p; parent = offset p (s .width + 1); reference = offset p (2 * s .width + 1) }
+unfoldable pub elementFields : Recipe → ℕ → ElementFields
+elementFields s p =
+    record { name = p + 1; class = class s p; parent = offset p (partOffset (s .width) 2 2); reference = offset p (partOffset (s .width) 2 3) }
 
 -- kind 3: "name, submodel or blank, way, target"
-unfoldable pub portOf : Recipe → ℕ → PortFields
-portOf s p = record { name = p + 1; submodel = offset p (submodelOffset s p); target = wayOf s p }
+unfoldable pub portFields : Recipe → ℕ → PortFields
+portFields s p = record { name = p + 1; submodel = offset p (submodelOffset s p); target = wayOf s p }
 
 -- kind 4: "name, model"
-unfoldable pub submodelOf : Recipe → ℕ → SubmodelFields
-submodelOf s p = record { name = p + 1; model = offset p (s .width) }
+unfoldable pub submodelFields : Recipe → ℕ → SubmodelFields
+submodelFields s p = record { name = p + 1; model = offset p (partOffset (s .width) 4 1) }
 
 -- kinds 5 to 7: "owner, submodel, way, target"; the owner of a deletion is its submodel once more
-unfoldable pub markOf : Recipe → ℕ → Mark
-markOf s p = record { owner = p + 1; submodel = offset p (submodelOffset s p); target = wayOf s p }
+unfoldable pub markFields : Recipe → ℕ → Mark
+markFields s p = record { owner = p + 1; submodel = offset p (submodelOffset s p); target = wayOf s p }
 
 -- a mark read, or not
 unfoldable pub markReading : Recipe → ℕ → Marked
-markReading s p = cond (isMarkForm s p) (Marks (markOf s p)) Unmarked
+markReading s p = cond (isForm s p) (Marks (markFields s p)) Unmarked
 
 -- the record at p, by its kind
-unfoldable pub recordOf : Recipe → ℕ → Record
+unfoldable pub recordOf : Recipe → ℕ → Read
 recordOf s p =
-    cond (isModel s p) (Model (p + 1))
-    (cond (isElement s p) (Element (elementOf s p))
-    (cond (isPort s p) (Port (portOf s p))
-    (cond (isSubmodel s p) (Submodel (submodelOf s p))
-    (cond (isDeletion s p) (Deletion (markOf s p))
-    (cond (isReplacement s p) (Replacement (markOf s p))
-    (ReplacedBy (markOf s p)))))))
+    cond (isModel s p) (As (Model (p + 1)))
+    (cond (isElement s p) (As (Element (elementFields s p)))
+    (cond (isPort s p) (As (Port (portFields s p)))
+    (cond (isSubmodel s p) (As (Submodel (submodelFields s p)))
+    (cond (isDeletion s p) (As (Deletion (markFields s p)))
+    (cond (isReplacement s p) (As (Replacement (markFields s p)))
+    (cond (isReplacedBy s p) (As (ReplacedBy (markFields s p)))
+    Refused))))))
 
 -- what the record at p reads as; refused, by row 3, where a field of it does not read
 unfoldable pub readingOf : Recipe → ℕ → Read
-readingOf s p = cond (isForm s p) (As (recordOf s p)) Refused
+readingOf s p = cond (isForm s p) (recordOf s p) Refused
 
 -- ---- what the readers ask
 -- a record of kind k, of n bytes
@@ -85,3 +85,9 @@ pub record RecordAt (s : Recipe) (p k n : ℕ) : Type 0 where
 pub record TargetAt (s : Recipe) (p k : ℕ) : Type 0 where
   pub begins : k ≡ submodelOffset s p
   pub room : p + 1 + (k + s .width + 1) + s .width ≤ length (s .bytes)
+
+-- a whole mark of kind k
+pub record MarkAt (s : Recipe) (p k : ℕ) : Type 0 where
+  pub kinded : kind s p ≡ k
+  pub marks : markKind k ≡ true
+  pub room : next s p ≤ length (s .bytes)

@@ -1,15 +1,16 @@
 -- 01's "Verdicts", rows 1 to 6, that judge a recipe without its tree: of each row the lowest place where it applies, if any.
 -- Assumes nothing.
 use Prim.Native.Nat.{ℕ}
-use mathlib.Core.Bool.{Bool, false, cond, not, _&&_, _||_}
+use mathlib.Core.Bool.{Bool, true, false, cond, not, _&&_, _||_}
 use mathlib.Core.Option.{Option, none, some}
-use mathlib.Core.List.{List}
+use mathlib.Core.List.{List, [], _∷_, _++_}
 use lib.ListN.{length}
 use lib.Dec.{leb, ltb, eqb}
 use Rattle.names.specs.Lists.{any, first, isSome, holds, lastOr, same}
 use Rattle.names.specs.Names.{underscore, text, isName, isNameOrBlank, isBlank}
+use Rattle.names.specs.Judging.{Row, row}
 use Rattle.flat_table.specs.Classes.{isClass, parentAllowed}
-use Rattle.recipe.specs.Records.{Recipe, isModel, isElement, isPort, isSubmodel, isDeletion, isReplacedBy, places, stop, firstField, name, class, parentField, referenceField, modelField, submodelField, way, targetField}
+use Rattle.recipe.specs.Records.{Recipe, Part, aName, aSubmodelName, aNameOrBlank, aClass, aWay, bodyOf, bytesOf, kind, isModel, isElement, isPort, isSubmodel, isReplacedBy, isOwned, isMark, places, stop, field, byte, firstField, name, class, parentField, modelField, submodelField, way, targetField}
 use Rattle.recipe.specs.Definitions.{definitions, holder, isDeclared, elementNamed, submodelNamed, definitionNamed, elementIn}
 use Rattle.recipe.specs.Reaching.{reaches}
 
@@ -37,30 +38,22 @@ endsWithUnderscore n = eqb (lastOr 0 n) underscore
 unfoldable pub isWay : ℕ → Bool
 isWay w = leb w 1
 
--- kind 2: "name, class byte, parent or blank, reference or blank" read
-unfoldable pub isElementForm : Recipe → ℕ → Bool
-isElementForm s p = isName (firstField s p) && isClass (class s p) && isNameOrBlank (parentField s p) && isNameOrBlank (referenceField s p)
+-- the part that begins k bytes into the body of the record at p reads as it must
+unfoldable pub reads : Recipe → ℕ → ℕ → Part → Bool
+reads s p k aName = isName (field s p k)
+reads s p k aSubmodelName = isName (field s p k) && not (endsWithUnderscore (text (field s p k)))
+reads s p k aNameOrBlank = isNameOrBlank (field s p k)
+reads s p k aClass = isClass (byte s p k)
+reads s p k aWay = isWay (byte s p k)
 
--- kind 3: "name, submodel or blank, way, target" read
-unfoldable pub isPortForm : Recipe → ℕ → Bool
-isPortForm s p = isName (firstField s p) && isNameOrBlank (submodelField s p) && isWay (way s p) && isName (targetField s p)
+-- each of some parts does that stand behind others
+unfoldable pub readsBehind : Recipe → ℕ → List Part → List Part → Bool
+readsBehind s p before [] = true
+readsBehind s p before (x ∷ xs) = reads s p (bytesOf (s .width) before) x && readsBehind s p (before ++ (x ∷ [])) xs
 
--- kind 4: "name, model" read, and the name does not end with an underscore
-unfoldable pub isSubmodelForm : Recipe → ℕ → Bool
-isSubmodelForm s p = isName (firstField s p) && not (endsWithUnderscore (name s p)) && isName (modelField s p)
-
--- kinds 5 to 7: "submodel, way, target" read, and the owner, which of a deletion is the submodel once more
-unfoldable pub isMarkForm : Recipe → ℕ → Bool
-isMarkForm s p = isName (firstField s p) && isName (submodelField s p) && isWay (way s p) && isName (targetField s p)
-
--- the fields of the record at p read as its kind has them
+-- the body of the record at p reads as its kind has it
 unfoldable pub isForm : Recipe → ℕ → Bool
-isForm s p =
-    cond (isModel s p) (isName (firstField s p))
-    (cond (isElement s p) (isElementForm s p)
-    (cond (isPort s p) (isPortForm s p)
-    (cond (isSubmodel s p) (isSubmodelForm s p)
-    (isMarkForm s p))))
+isForm s p = readsBehind s p [] (bodyOf (kind s p))
 
 -- row 3: "a field that fails to read as a name, or is blank where no blank is allowed; way or class byte without meaning; a kind 4 whose own name ends with an underscore"
 unfoldable pub fault₃ : Recipe → Option ℕ
@@ -103,7 +96,7 @@ isSubmodelFieldFault s p = not (isSome (submodelNamed s (holder s p) (text (subm
 
 -- row 5: "or owner no element, of the definition"; a deletion has none
 unfoldable pub isOwnerFault : Recipe → ℕ → Bool
-isOwnerFault s p = not (isDeletion s p) && not (isSome (elementNamed s (holder s p) (text (firstField s p))))
+isOwnerFault s p = isOwned s p && not (isSome (elementNamed s (holder s p) (text (firstField s p))))
 
 -- row 5: "submodel's model undefined"
 unfoldable pub isModelFault : Recipe → ℕ → Bool
@@ -120,7 +113,7 @@ isUndeclared s p =
     (cond (isElement s p) (isParentFault s p)
     (cond (isPort s p) (isPortFault s p)
     (cond (isSubmodel s p) (isModelFault s p)
-    (isSubmodelFieldFault s p || isOwnerFault s p))))
+    (cond (isMark s p) (isSubmodelFieldFault s p || isOwnerFault s p) false))))
 
 -- row 5: "submodel's model undefined; parent against the class table ..; submodel field no submodel, or owner no element, of the definition; blank-submodel port .."
 unfoldable pub fault₅ : Recipe → Option ℕ
@@ -129,3 +122,12 @@ fault₅ s = first (isUndeclared s) (places s)
 -- row 6: "definition reaches itself, used by main or not"
 unfoldable pub fault₆ : Recipe → Option ℕ
 fault₆ s = first (λ d. reaches s d d) (definitions s)
+
+-- ---- the order of judging
+-- rows 1 to 3, which look at each record alone
+abbrev pub formRows : Recipe → List Row
+formRows s = row 1 (fault₁ s) ∷ row 2 (fault₂ s) ∷ row 3 (fault₃ s) ∷ []
+
+-- rows 4 to 6, which look at what the records name
+abbrev pub namingRows : Recipe → List Row
+namingRows s = row 4 (fault₄ s) ∷ row 5 (fault₅ s) ∷ row 6 (fault₆ s) ∷ []

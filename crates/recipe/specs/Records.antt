@@ -1,9 +1,9 @@
 -- 01's "Recipe records". A record is named by its place p, the offset of its kind byte. Names have any width: 01's is 12.
 -- Assumes nothing.
-use Prim.Native.Nat.{ℕ, zero, suc, _+_, _*_}
-use mathlib.Core.Bool.{Bool, true, false, _&&_, _||_}
+use Prim.Native.Nat.{ℕ, zero, suc, _+_}
+use mathlib.Core.Bool.{Bool, true, false, cond, _&&_, _||_}
 use mathlib.Core.List.{List, [], _∷_}
-use lib.ListN.{length, getD}
+use lib.ListN.{length, getD, take}
 use lib.Dec.{leb, ltb, eqb}
 use Rattle.names.specs.Names.{fieldAt, text}
 
@@ -12,17 +12,91 @@ pub record Recipe : Type 0 where
   pub width : ℕ
   pub bytes : List ℕ
 
--- column "Bytes after kind", for kind 0 (which is none), 1, 2 .. 7, of name width w
-unfoldable pub bodyLengths : ℕ → List ℕ
-bodyLengths w = 0 ∷ w ∷ (3 * w + 1) ∷ (3 * w + 1) ∷ (2 * w) ∷ (2 * w + 1) ∷ (3 * w + 1) ∷ (3 * w + 1) ∷ []
+-- column "Body, in order": what a part of a body is
+pub data Part : Type 0 where
+  -- a name: "name", "model", "submodel", "owner", "target"
+  aName : Part
+  -- the name of kind 4: "A submodel's name may not end with an underscore"
+  aSubmodelName : Part
+  -- "parent or blank", "reference or blank", "submodel or blank"
+  aNameOrBlank : Part
+  -- "class byte"
+  aClass : Part
+  -- "way"
+  aWay : Part
+
+-- the table of the kinds: the body of kind 0 (which is none), 1, 2 .. 7
+abbrev pub bodies : List (List Part)
+bodies =
+    []
+    ∷ (aName ∷ [])
+    ∷ (aName ∷ aClass ∷ aNameOrBlank ∷ aNameOrBlank ∷ [])
+    ∷ (aName ∷ aNameOrBlank ∷ aWay ∷ aName ∷ [])
+    ∷ (aSubmodelName ∷ aName ∷ [])
+    ∷ (aName ∷ aWay ∷ aName ∷ [])
+    ∷ (aName ∷ aName ∷ aWay ∷ aName ∷ [])
+    ∷ (aName ∷ aName ∷ aWay ∷ aName ∷ [])
+    ∷ []
+
+-- the body of kind k
+abbrev pub bodyOf : ℕ → List Part
+bodyOf k = getD bodies k []
+
+-- "A name field is 12 bytes", of name width w; class and way are one byte
+abbrev pub partBytes : ℕ → Part → ℕ
+partBytes w aName = w
+partBytes w aSubmodelName = w
+partBytes w aNameOrBlank = w
+partBytes w aClass = 1
+partBytes w aWay = 1
+
+-- the bytes of some parts, one behind the other
+abbrev pub bytesOf : ℕ → List Part → ℕ
+bytesOf w [] = 0
+bytesOf w (x ∷ []) = partBytes w x
+bytesOf w (x ∷ y ∷ xs) = partBytes w x + bytesOf w (y ∷ xs)
+
+-- where part number i of the body of kind k begins in it, counted from 0
+abbrev pub partOffset : ℕ → ℕ → ℕ → ℕ
+partOffset w k i = bytesOf w (take i (bodyOf k))
+
+-- there is a part
+abbrev pub hasParts : List Part → Bool
+hasParts [] = false
+hasParts (x ∷ xs) = true
 
 -- column "Kind": the kinds of the table
 unfoldable pub isKnown : ℕ → Bool
-isKnown k = leb 1 k && leb k 7
+isKnown k = hasParts (bodyOf k)
 
--- "Each record is one kind byte and a body": the bytes of a record of kind k
+-- "Each record is one kind byte and a body whose length the kind fixes": the bytes of a record of kind k
 unfoldable pub recordLength : ℕ → ℕ → ℕ
-recordLength w k = 1 + getD (bodyLengths w) k 0
+recordLength w k = 1 + bytesOf w (bodyOf k)
+
+-- ---- what is asked of a kind
+-- "3 port"
+abbrev pub portKind : ℕ → Bool
+portKind k = eqb k 3
+
+-- "5 deletion"
+abbrev pub deletionKind : ℕ → Bool
+deletionKind k = eqb k 5
+
+-- "7 replaced-by"
+abbrev pub replacedByKind : ℕ → Bool
+replacedByKind k = eqb k 7
+
+-- a mark with an owner: "6 replacement", "7 replaced-by"
+abbrev pub ownedKind : ℕ → Bool
+ownedKind k = eqb k 6 || eqb k 7
+
+-- "A mark has one of three kinds (5, 6, 7)"
+abbrev pub markKind : ℕ → Bool
+markKind k = eqb k 5 || eqb k 6 || eqb k 7
+
+-- a mark or port
+abbrev pub pointerKind : ℕ → Bool
+pointerKind k = markKind k || portKind k
 
 -- the kind byte of the record at p
 unfoldable pub kind : Recipe → ℕ → ℕ
@@ -38,7 +112,7 @@ isElement s p = eqb (kind s p) 2
 
 -- "3 port"
 unfoldable pub isPort : Recipe → ℕ → Bool
-isPort s p = eqb (kind s p) 3
+isPort s p = portKind (kind s p)
 
 -- "4 submodel"
 unfoldable pub isSubmodel : Recipe → ℕ → Bool
@@ -46,7 +120,7 @@ isSubmodel s p = eqb (kind s p) 4
 
 -- "5 deletion"
 unfoldable pub isDeletion : Recipe → ℕ → Bool
-isDeletion s p = eqb (kind s p) 5
+isDeletion s p = deletionKind (kind s p)
 
 -- "6 replacement"
 unfoldable pub isReplacement : Recipe → ℕ → Bool
@@ -54,11 +128,19 @@ isReplacement s p = eqb (kind s p) 6
 
 -- "7 replaced-by"
 unfoldable pub isReplacedBy : Recipe → ℕ → Bool
-isReplacedBy s p = eqb (kind s p) 7
+isReplacedBy s p = replacedByKind (kind s p)
+
+-- a mark with an owner
+abbrev pub isOwned : Recipe → ℕ → Bool
+isOwned s p = isReplacement s p || isReplacedBy s p
 
 -- "A mark has one of three kinds (5, 6, 7)"
 unfoldable pub isMark : Recipe → ℕ → Bool
 isMark s p = isDeletion s p || isReplacement s p || isReplacedBy s p
+
+-- a mark or port
+abbrev pub isPointer : Recipe → ℕ → Bool
+isPointer s p = isMark s p || isPort s p
 
 -- "a body whose length the kind fixes": where the record after the one at p begins
 unfoldable pub next : Recipe → ℕ → ℕ
@@ -104,32 +186,36 @@ name s p = text (firstField s p)
 
 -- kind 2, "name, class byte, parent or blank, reference or blank": the class
 unfoldable pub class : Recipe → ℕ → ℕ
-class s p = byte s p (s .width)
+class s p = byte s p (partOffset (s .width) 2 1)
 
 -- the parent
 unfoldable pub parentField : Recipe → ℕ → List ℕ
-parentField s p = field s p (s .width + 1)
+parentField s p = field s p (partOffset (s .width) 2 2)
 
 -- the reference
 unfoldable pub referenceField : Recipe → ℕ → List ℕ
-referenceField s p = field s p (2 * s .width + 1)
+referenceField s p = field s p (partOffset (s .width) 2 3)
 
 -- kind 4, "name, model": the model
 unfoldable pub modelField : Recipe → ℕ → List ℕ
-modelField s p = field s p (s .width)
+modelField s p = field s p (partOffset (s .width) 4 1)
 
--- kinds 3 and 5 to 7, "submodel, way, target": where the submodel begins in the body, which is behind a name but for a deletion
+-- kinds 3 and 5 to 7, "submodel, way, target": the number of the submodel's part, the first of a deletion, the second of the others
+abbrev pub submodelPart : ℕ → ℕ
+submodelPart k = cond (deletionKind k) 0 1
+
+-- where it begins in the body
 unfoldable pub submodelOffset : Recipe → ℕ → ℕ
-submodelOffset s p = elim (isDeletion s p) [ true ↦ 0 | false ↦ s .width ]
+submodelOffset s p = partOffset (s .width) (kind s p) (submodelPart (kind s p))
 
 -- the submodel of a port or mark
 unfoldable pub submodelField : Recipe → ℕ → List ℕ
 submodelField s p = field s p (submodelOffset s p)
 
--- "The way byte is 0 (target given by element name) or 1 (by port name)"
+-- "The way byte is 0 (target given by element name) or 1 (by port name)", behind the submodel
 unfoldable pub way : Recipe → ℕ → ℕ
 way s p = byte s p (submodelOffset s p + s .width)
 
--- the target's name
+-- the target's name, behind the way
 unfoldable pub targetField : Recipe → ℕ → List ℕ
 targetField s p = field s p (submodelOffset s p + s .width + 1)

@@ -1,14 +1,15 @@
 // Recipes: their records, and the refusals 1 to 3.
-// For the floors above: length_fault, record_length, is_readable, reading_stop, read_record, first_unformed. They take the name width w, which is 12.
+// For the floors above, which name the width w of names: length_fault, reading_stop and first_unformed (rows 1 to 3), is_readable and read_record;
+// what is asked of a kind byte k: record_length, is_port, is_deletion, is_replaced_by, is_owned, is_mark, is_pointer, submodel_offset; wide, of a number in a table.
 ghost use mathlib.Core.Path.{_≡_};
 ghost use mathlib.Core.Bool.{true};
-ghost use Prim.Native.Nat.{ℕ, _+_, _*_, _≤_};
+ghost use Prim.Native.Nat.{ℕ, _+_, _*_, _<_, _≤_};
 ghost use lib.ListN.{length};
 ghost use Rattle.names.specs.Names.{fieldOf, optionalOf};
 ghost use Rattle.names.specs.Scans.{foundOf};
-ghost use Rattle.recipe.specs.Records.{Recipe, recordLength, isReadable, stop, field};
+ghost use Rattle.recipe.specs.Records.{Recipe, isKnown, recordLength, portKind, deletionKind, replacedByKind, ownedKind, markKind, pointerKind, submodelPart, partOffset, isReadable, stop, field};
 ghost use Rattle.recipe.specs.Reading.{fault₁, fault₃};
-ghost use Rattle.recipe.specs.Fields.{TargetAt, RecordAt, targetReading, markReading, readingOf};
+ghost use Rattle.recipe.specs.Fields.{TargetAt, RecordAt, MarkAt, targetReading, markReading, readingOf};
 use names::Field;
 use names::Found;
 use names::Optional;
@@ -76,6 +77,13 @@ pub enum Read {
     Refused,
 }
 
+// A number of the tables, as a place or a count.
+pub fn wide(x: u16) -> usize
+    ensures { λ r. ⌜ (r ≡ x) × (r < 65536) ⌝ }
+{
+    x as usize
+}
+
 // Whether row 1 refuses the recipe, at its start: it is empty, or over 16,384 bytes. The name width does not matter.
 pub fn length_fault(s: &[u8]) -> Found
     ensures { λ r. ⌜ ((w : ℕ) → r ≡ foundOf (fault₁ (record { width = w; bytes = now (s .entry) }))) ⌝ }
@@ -100,6 +108,66 @@ pub fn record_length(k: u8, w: usize) -> usize
     }
 }
 
+// Whether there is a kind k.
+fn is_known(k: u8) -> bool
+    ensures { λ r. ⌜ r ≡ isKnown k ⌝ }
+{
+    (1 <= k) & (k <= 7)
+}
+
+// A port.
+pub fn is_port(k: u8) -> bool
+    ensures { λ r. ⌜ r ≡ portKind k ⌝ }
+{
+    k == 3
+}
+
+// A deletion.
+pub fn is_deletion(k: u8) -> bool
+    ensures { λ r. ⌜ r ≡ deletionKind k ⌝ }
+{
+    k == 5
+}
+
+// A replaced-by.
+pub fn is_replaced_by(k: u8) -> bool
+    ensures { λ r. ⌜ r ≡ replacedByKind k ⌝ }
+{
+    k == 7
+}
+
+// A mark with an owner: a replacement or replaced-by.
+pub fn is_owned(k: u8) -> bool
+    ensures { λ r. ⌜ r ≡ ownedKind k ⌝ }
+{
+    (k == 6) | (k == 7)
+}
+
+// A mark.
+pub fn is_mark(k: u8) -> bool
+    ensures { λ r. ⌜ r ≡ markKind k ⌝ }
+{
+    (k == 5) | (k == 6) | (k == 7)
+}
+
+// A mark or port.
+pub fn is_pointer(k: u8) -> bool
+    ensures { λ r. ⌜ r ≡ pointerKind k ⌝ }
+{
+    is_mark(k) | is_port(k)
+}
+
+// Where the submodel begins in the body of a mark or port.
+pub fn submodel_offset(k: u8, w: usize) -> usize
+    requires { ⌜ pointerKind k ≡ true ⌝ }
+    ensures { λ r. ⌜ r ≡ partOffset w k (submodelPart k) ⌝ }
+{
+    if is_deletion(k) {
+        return 0;
+    }
+    w
+}
+
 // Whether the record at p is whole, of a known kind, and of kind 1 if it is the first: row 2 does not refuse it.
 pub fn is_readable(s: &[u8], w: usize, p: usize) -> bool
     requires { ⌜ w ≤ 65536 ⌝ }
@@ -109,10 +177,7 @@ pub fn is_readable(s: &[u8], w: usize, p: usize) -> bool
         return false;
     }
     let k = s[p];
-    if k < 1 {
-        return false;
-    }
-    if k > 7 {
+    if !is_known(k) {
         return false;
     }
     let n = record_length(k, w);
@@ -200,14 +265,14 @@ fn read_element(s: &[u8], w: usize, p: usize) -> Read
     let Optional::Holds(_) = optional_at(s, w, p, w + 1) else {
         return Read::Refused;
     };
-    let Optional::Holds(_) = optional_at(s, w, p, 2 * w + 1) else {
+    let Optional::Holds(_) = optional_at(s, w, p, w + (1 + w)) else {
         return Read::Refused;
     };
     Read::As(Record::Element(ElementFields {
         name: p + 1,
         class: class,
         parent: p + 1 + (w + 1),
-        reference: p + 1 + (2 * w + 1),
+        reference: p + 1 + (w + (1 + w)),
     }))
 }
 
@@ -251,23 +316,24 @@ fn read_submodel(s: &[u8], w: usize, p: usize) -> Read
     }))
 }
 
-// The mark at p, whose submodel begins k bytes into its body.
-fn read_mark(s: &[u8], w: usize, p: usize, k: usize) -> Marked
-    requires { ⌜ TargetAt (record { width = w; bytes = now s }) p k ⌝ }
+// The mark at p, of kind k.
+fn read_mark(s: &[u8], w: usize, p: usize, k: u8) -> Marked
+    requires { ⌜ MarkAt (record { width = w; bytes = now s }) p k ⌝ }
     ensures { λ r. ⌜ r ≡ markReading (record { width = w; bytes = now (s .entry) }) p ⌝ }
 {
+    let o = submodel_offset(k, w);
     let Field::Name(_) = field_at(s, w, p, 0) else {
         return Marked::Unmarked;
     };
-    let Field::Name(_) = field_at(s, w, p, k) else {
+    let Field::Name(_) = field_at(s, w, p, o) else {
         return Marked::Unmarked;
     };
-    let Target::Named(way) = read_target(s, w, p, k) else {
+    let Target::Named(way) = read_target(s, w, p, o) else {
         return Marked::Unmarked;
     };
     Marked::Marks(Mark {
         owner: p + 1,
-        submodel: p + 1 + k,
+        submodel: p + 1 + o,
         target: way,
     })
 }
@@ -290,19 +356,19 @@ pub fn read_record(s: &[u8], w: usize, p: usize) -> Read
     if k == 4 {
         return read_submodel(s, w, p);
     }
-    if k == 5 {
-        let Marked::Marks(m) = read_mark(s, w, p, 0) else {
-            return Read::Refused;
-        };
-        return Read::As(Record::Deletion(m));
+    if !is_mark(k) {
+        return Read::Refused;
     }
-    let Marked::Marks(m) = read_mark(s, w, p, w) else {
+    let Marked::Marks(m) = read_mark(s, w, p, k) else {
         return Read::Refused;
     };
-    if k == 6 {
-        return Read::As(Record::Replacement(m));
+    if is_deletion(k) {
+        return Read::As(Record::Deletion(m));
     }
-    Read::As(Record::ReplacedBy(m))
+    if is_replaced_by(k) {
+        return Read::As(Record::ReplacedBy(m));
+    }
+    Read::As(Record::Replacement(m))
 }
 
 // The first record that row 3 refuses.

@@ -13,12 +13,11 @@ use borrow.Author.Tests.{ltb-false}
 use Rattle.names.specs.Lists.{In, any, joined}
 use Rattle.names.proofs.Tests.{or-none-left, or-none-right}
 use Rattle.names.proofs.Lists.{not-any, in-map, map-in, in-joined, joined-in, empty, map-same}
-use Rattle.flat_table.specs.Table.{mostRows}
 use Rattle.recipe.specs.Records.{Recipe}
 use Rattle.recipe.specs.Definitions.{main, submodels, modelOf}
 use Rattle.recipe.proofs.Rows.{not-at-start}
 use Rattle.tree.specs.Tree.{mostDepth, instances, pathsBelow, definitionBelow, Submodels, treeElements}
-use Rattle.tree.specs.Faults.{mostInstances, isTooLarge, fault₇}
+use Rattle.tree.specs.Faults.{mostInstances, isTooLarge, fault₇, mostElements}
 
 module _ (s : Recipe) where
   -- an instance's path is one
@@ -96,10 +95,10 @@ module _ (s : Recipe) where
         ltb-false 4 (length path) (not-any (λ p. ltb 4 (length p)) (instances s) path d i)
 
     -- "over 1,024 elements in the tree" does not apply
-    pub elements-most : length (treeElements s) ≤ mostRows
+    pub elements-most : length (treeElements s) ≤ mostElements
     unfolding isTooLarge
     elements-most =
-        ltb-false mostRows (length (treeElements s))
+        ltb-false mostElements (length (treeElements s))
         (or-none-right (ltb mostInstances (length (instances s)) || any (λ p. ltb mostDepth (length p)) (instances s)) _ not-too-large)
 
     -- no path of submodels from main is longer than four, so each is an instance's: looking no deeper leaves none out

@@ -14,11 +14,10 @@ use native.Mathlib.Omega.{arith}
 use Rattle.names.specs.Lists.{In, joined}
 use Rattle.names.proofs.Lists.{map-same}
 use Rattle.names.proofs.ListOrder.{Rising, keep-rising, rising-in}
-use Rattle.flat_table.specs.Table.{mostRows}
 use Rattle.recipe.specs.Definitions.{elements, holder, main, modelOf, recordsOf, submodels}
 use Rattle.recipe.specs.Records.{Recipe, isElement, isModel, isSubmodel, places}
 use Rattle.recipe.proofs.Reading.{places-rise}
-use Rattle.tree.specs.Faults.{fault₇}
+use Rattle.tree.specs.Faults.{fault₇, mostElements}
 use Rattle.tree.specs.Numbers.{ahead, firstAt, firstBelow, number, order, run, total, upTo, weight, weightIn}
 use Rattle.tree.specs.Tree.{Node, Submodels, definitionAt, definitionBelow, instances, mostDepth, node, nodes, pathsBelow, treeElements}
 use Rattle.tree.proofs.Instances.{at-most-four, elements-most}
@@ -233,7 +232,7 @@ module _ (s : Recipe) (h₇ : fault₇ s ≡ none) where
 
   -- row 7: each number is below 1,024
   pub weight-few : weight s main ≤ 1024
-  unfolding mostRows
+  unfolding mostElements
   weight-few =
       let l : length (map (number s) (treeElements s)) ≡ length (treeElements s) = length-map (treeElements s) (number s) in
       let r : length (map (number s) (treeElements s)) ≡ length (run 0 (weight s main)) = ap length tree-numbers in

@@ -4,7 +4,7 @@ use Prim.Native.Nat.{_*_, _+_, _-_, _<_, _≤_, suc, zero, ℕ}
 use borrow.Author.Tests.{eqb-true, not-false, not-true}
 use lib.Dec.{eqb}
 use lib.ListN.{getD, length}
-use mathlib.Core.Bool.{Bool, _&&_, _||_, false, false≢true, not, true}
+use mathlib.Core.Bool.{Bool, _&&_, _||_, false, not, true}
 use mathlib.Core.List.{List, [], _∷_}
 use mathlib.Core.Logic.{_⊎_, inl, inr, ⊎-elim}
 use mathlib.Core.Option.{Option, Option·getD, Option·map, none, some}
@@ -14,48 +14,40 @@ use Rattle.names.specs.Lists.{In, isSome, same}
 use Rattle.names.specs.Names.{isBlank, text}
 use Rattle.names.proofs.Lists.{in-keep, none-first, some-first}
 use Rattle.names.proofs.Tests.{is-some, and-left, by-cases, by-option, isSome-map, not-both, not-none, or-none-left, some-map, the-some}
-use Rattle.recipe.specs.Definitions.{elementNamed, elements, holder, modelOf, named, portNamed, ports, recordsOf, submodelNamed, submodels}
+use Rattle.recipe.specs.Definitions.{elementNamed, elements, holder, modelOf, named, portNamed, ports, recordsOf, submodelNamed, submodels, namedBy, submodelOf}
 use Rattle.recipe.specs.Reading.{fault₅, isPortFault, isSubmodelFieldFault, isUndeclared}
 use Rattle.recipe.specs.Records.{Recipe, isDeletion, isElement, isMark, isModel, isPort, isReplacedBy, isReplacement, isSubmodel, kind, name, places, submodelField, targetField, way}
+use Rattle.recipe.proofs.Bodies.{by-pointer, pointer-kind}
 use Rattle.recipe.proofs.Definitions.{in-records}
 use Rattle.recipe.proofs.Going.{here}
 use Rattle.recipe.proofs.Reading.{first-model, place-low, readable}
 use Rattle.tree.specs.Numbers.{ahead, firstBelow, numberIn, order}
-use Rattle.tree.specs.Resolve.{Names, Resolved, names, subOf}
+use Rattle.tree.specs.Resolve.{Names, Resolved}
 use Rattle.tree.specs.Tree.{Node, definitionBelow, elementTarget, node, submodelNames, targetBelow, targetBy, targetNamed, targetWithin, through}
 use Rattle.tree.specs.Walk.{Known, Right}
 
 module _ (s : Recipe) where
   -- ---- a pointer's submodel, by row 5
-  abbrev Kinds : ℕ → Type 0
-  Kinds r = (kind s r ≡ 3) ⊎ ((kind s r ≡ 5) ⊎ ((kind s r ≡ 6) ⊎ (kind s r ≡ 7)))
-
-  pointer-kinds : (r : ℕ) → isMark s r || isPort s r ≡ true → Kinds r
-  unfolding isMark isPort isDeletion isReplacement isReplacedBy
-  pointer-kinds r h =
-      by-cases (isPort s r) (λ e. inl (eqb-true (kind s r) 3 e))
-      (λ e. by-cases (isDeletion s r) (λ f. inr (inl (eqb-true (kind s r) 5 f)))
-      (λ f. by-cases (isReplacement s r) (λ g. inr (inr (inl (eqb-true (kind s r) 6 g))))
-      (λ g. by-cases (isReplacedBy s r) (λ k. inr (inr (inr (eqb-true (kind s r) 7 k)))) (λ k. absurd (false≢true (rw (f, g, k, e) at h))))))
-
   sub-there : fault₅ s ≡ none → (r : ℕ) → In r (places s) → isMark s r || isPort s r ≡ true → isBlank (submodelField s r) ≡ false
-      → submodelNamed s (holder s r) (text (submodelField s r)) ≡ some (subOf s r)
-  unfolding fault₅ isUndeclared isPortFault isSubmodelFieldFault isModel isElement isPort isSubmodel subOf
+      → submodelNamed s (holder s r) (text (submodelField s r)) ≡ some (submodelOf s r)
+  unfolding fault₅ isUndeclared isPortFault isSubmodelFieldFault isModel isElement isPort isSubmodel isMark isDeletion isReplacement isReplacedBy submodelOf
   sub-there h r i k b =
       let u : isUndeclared s r ≡ false = none-first (isUndeclared s) (places s) r h i in
       let o = submodelNamed s (holder s r) (text (submodelField s r)) in
       let t : isSome o ≡ true = not-false (isSome o)
-      (⊎-elim (λ (e : kind s r ≡ 3). rw (e, b) at u)
-      (⊎-elim (λ (e : kind s r ≡ 5). or-none-left (not (isSome o)) _ (rw e at u))
-      (⊎-elim (λ (e : kind s r ≡ 6). or-none-left (not (isSome o)) _ (rw e at u)) (λ (e : kind s r ≡ 7). or-none-left (not (isSome o)) _ (rw e at u))))
-      (pointer-kinds r k)) in
+      (by-pointer (λ j. kind s r ≡ j → not (isSome o) ≡ false)
+      (λ e. rw (e, b) at u)
+      (λ e. or-none-left (not (isSome o)) _ (rw e at u))
+      (λ e. or-none-left (not (isSome o)) _ (rw e at u))
+      (λ e. or-none-left (not (isSome o)) _ (rw e at u))
+      (kind s r) (sym (pointer-kind s r) ∙ k) refl) in
       let e = is-some o t in
       e .1 ∙ ap some (sym (ap (λ (z : Option ℕ). Option·getD z 0) (e .1)))
 
   pub sub-in : fault₅ s ≡ none → (r : ℕ) → In r (places s) → isMark s r || isPort s r ≡ true → isBlank (submodelField s r) ≡ false
-      → In (subOf s r) (submodels s (holder s r))
+      → In (submodelOf s r) (submodels s (holder s r))
   unfolding submodelNamed named
-  sub-in h r i k b = some-first (λ p. same (name s p) (text (submodelField s r))) (submodels s (holder s r)) (subOf s r) (sub-there h r i k b) .0
+  sub-in h r i k b = some-first (λ p. same (name s p) (text (submodelField s r))) (submodels s (holder s r)) (submodelOf s r) (sub-there h r i k b) .0
 
   -- ---- the first record is a model, so 0 is no element, port or submodel
   pub not-zero : (d p : ℕ) → In p (recordsOf s d) → p ≡ 0 → ⊥
@@ -92,45 +84,45 @@ module _ (s : Recipe) where
       let g = in-records s d x (f .0) in
       record { place = g .0; sort = f .1; held = g .1; some-place = not-zero d x (f .0) }
 
-  names-blank : (r x : ℕ) → isBlank (submodelField s r) ≡ true → names s r ≡ some x → Element (holder s r) x
-  unfolding names
-  names-blank r x b e = an-element (holder s r) x (text (targetField s r)) (rw (b, names) at e)
+  named-blank : (r x : ℕ) → isBlank (submodelField s r) ≡ true → namedBy s r ≡ some x → Element (holder s r) x
+  unfolding namedBy
+  named-blank r x b e = an-element (holder s r) x (text (targetField s r)) (rw b at e)
 
-  names-below : (r x : ℕ) → isBlank (submodelField s r) ≡ false → names s r ≡ some x
-      → ((eqb (way s r) 0 ≡ true) × Element (modelOf s (subOf s r)) x) ⊎ ((eqb (way s r) 0 ≡ false) × Port (modelOf s (subOf s r)) x)
-  unfolding names
-  names-below r x b e =
+  named-below : (r x : ℕ) → isBlank (submodelField s r) ≡ false → namedBy s r ≡ some x
+      → ((eqb (way s r) 0 ≡ true) × Element (modelOf s (submodelOf s r)) x) ⊎ ((eqb (way s r) 0 ≡ false) × Port (modelOf s (submodelOf s r)) x)
+  unfolding namedBy
+  named-below r x b e =
       by-cases (eqb (way s r) 0)
-      (λ w. inl (w, an-element (modelOf s (subOf s r)) x (text (targetField s r)) (rw (b, names, w) at e)))
-      (λ w. inr (w, a-port (modelOf s (subOf s r)) x (text (targetField s r)) (rw (b, names, w) at e)))
+      (λ w. inl (w, an-element (modelOf s (submodelOf s r)) x (text (targetField s r)) (rw (b, w) at e)))
+      (λ w. inr (w, a-port (modelOf s (submodelOf s r)) x (text (targetField s r)) (rw (b, w) at e)))
 
   -- ---- targets, one record further
-  target-blank : (n r : ℕ) → isBlank (submodelField s r) ≡ true → targetWithin (suc n) s r ≡ Option·map (node []) (names s r)
-  unfolding targetWithin targetBy names elementTarget
-  target-blank n r b = rw (b, targetBy, names)
+  target-blank : (n r : ℕ) → isBlank (submodelField s r) ≡ true → targetWithin (suc n) s r ≡ Option·map (node []) (namedBy s r)
+  unfolding targetWithin targetBy namedBy elementTarget
+  target-blank n r b = rw (b, targetBy)
 
   target-way : (n r : ℕ) → fault₅ s ≡ none → In r (places s) → isMark s r || isPort s r ≡ true → isBlank (submodelField s r) ≡ false
-      → targetWithin (suc n) s r ≡ Option·map (through (subOf s r)) (targetNamed s (targetWithin n s) (modelOf s (subOf s r)) (way s r) (text (targetField s r)))
+      → targetWithin (suc n) s r ≡ Option·map (through (submodelOf s r)) (targetNamed s (targetWithin n s) (modelOf s (submodelOf s r)) (way s r) (text (targetField s r)))
   unfolding targetWithin targetBy submodelNames targetBelow
   target-way n r h i k b = rw (b, targetBy, sub-there h r i k b, targetBelow)
 
-  named-none : (n r : ℕ) → isBlank (submodelField s r) ≡ false → names s r ≡ none
-      → targetNamed s (targetWithin n s) (modelOf s (subOf s r)) (way s r) (text (targetField s r)) ≡ none
-  unfolding names targetNamed elementTarget
+  named-none : (n r : ℕ) → isBlank (submodelField s r) ≡ false → namedBy s r ≡ none
+      → targetNamed s (targetWithin n s) (modelOf s (submodelOf s r)) (way s r) (text (targetField s r)) ≡ none
+  unfolding namedBy targetNamed elementTarget
   named-none n r b e =
       by-cases (eqb (way s r) 0)
-      (λ w. rw (w, targetNamed, rw (b, names, w) at e))
-      (λ w. rw (w, targetNamed, rw (b, names, w) at e))
+      (λ w. rw (w, targetNamed, rw (b, w) at e))
+      (λ w. rw (w, targetNamed, rw (b, w) at e))
 
-  named-element : (n r x : ℕ) → isBlank (submodelField s r) ≡ false → names s r ≡ some x → eqb (way s r) 0 ≡ true
-      → targetNamed s (targetWithin n s) (modelOf s (subOf s r)) (way s r) (text (targetField s r)) ≡ some (node [] x)
-  unfolding names targetNamed elementTarget
-  named-element n r x b e w = rw (w, targetNamed, rw (b, names, w) at e)
+  named-element : (n r x : ℕ) → isBlank (submodelField s r) ≡ false → namedBy s r ≡ some x → eqb (way s r) 0 ≡ true
+      → targetNamed s (targetWithin n s) (modelOf s (submodelOf s r)) (way s r) (text (targetField s r)) ≡ some (node [] x)
+  unfolding namedBy targetNamed elementTarget
+  named-element n r x b e w = rw (w, targetNamed, rw (b, w) at e)
 
-  named-port : (n r x : ℕ) → isBlank (submodelField s r) ≡ false → names s r ≡ some x → eqb (way s r) 0 ≡ false
-      → targetNamed s (targetWithin n s) (modelOf s (subOf s r)) (way s r) (text (targetField s r)) ≡ targetWithin n s x
-  unfolding names targetNamed
-  named-port n r x b e w = rw (w, targetNamed, rw (b, names, w) at e)
+  named-port : (n r x : ℕ) → isBlank (submodelField s r) ≡ false → namedBy s r ≡ some x → eqb (way s r) 0 ≡ false
+      → targetNamed s (targetWithin n s) (modelOf s (submodelOf s r)) (way s r) (text (targetField s r)) ≡ targetWithin n s x
+  unfolding namedBy targetNamed
+  named-port n r x b e w = rw (w, targetNamed, rw (b, w) at e)
 
   -- ---- numbers, one record further
   number-own : (d x : ℕ) → numberIn s d (node [] x) ≡ order s d x
@@ -174,38 +166,38 @@ module _ (s : Recipe) where
   resolve-zero (suc n) r z = absurd (omega arith)
 
 module _ (s : Recipe) (sub nxt ord : List ℕ) (N : Names s sub nxt ord) (off : List ℕ) (r : ℕ) (here : In r (places s)) (sort : isMark s r || isPort s r ≡ true) where
-  named-zero : (x : ℕ) → names s r ≡ some x → x ≡ 0 → ⊥
+  named-zero : (x : ℕ) → namedBy s r ≡ some x → x ≡ 0 → ⊥
   named-zero x e =
       by-cases (isBlank (submodelField s r))
-      (λ b. names-blank s r x b e .some-place)
-      (λ b. ⊎-elim (λ (w : (eqb (way s r) 0 ≡ true) × Element s (modelOf s (subOf s r)) x). w .1 .some-place)
-      (λ (w : (eqb (way s r) 0 ≡ false) × Port s (modelOf s (subOf s r)) x). w .1 .some-place) (names-below s r x b e))
+      (λ b. named-blank s r x b e .some-place)
+      (λ b. ⊎-elim (λ (w : (eqb (way s r) 0 ≡ true) × Element s (modelOf s (submodelOf s r)) x). w .1 .some-place)
+      (λ (w : (eqb (way s r) 0 ≡ false) × Port s (modelOf s (submodelOf s r)) x). w .1 .some-place) (named-below s r x b e))
 
-  next-none : getD nxt r 0 ≡ 0 → names s r ≡ none
+  next-none : getD nxt r 0 ≡ 0 → namedBy s r ≡ none
   next-none z =
-      by-option (names s r) (λ e. e)
+      by-option (namedBy s r) (λ e. e)
       (λ y e. absurd (named-zero y e (sym (N .nexts r here sort ∙ ap (λ (o : Option ℕ). Option·getD o 0) e) ∙ z)))
 
-  next-some : (getD nxt r 0 ≡ 0 → ⊥) → names s r ≡ some (getD nxt r 0)
+  next-some : (getD nxt r 0 ≡ 0 → ⊥) → namedBy s r ≡ some (getD nxt r 0)
   next-some z =
-      by-option (names s r)
+      by-option (namedBy s r)
       (λ e. absurd (z (N .nexts r here sort ∙ ap (λ (o : Option ℕ). Option·getD o 0) e)))
       (λ y e. e ∙ ap some (sym (N .nexts r here sort ∙ ap (λ (o : Option ℕ). Option·getD o 0) e)))
 
   -- places
   pub next-low : (x : ℕ) → x ≡ getD nxt r 0 → (x ≡ 0 → ⊥) → x < length (s .bytes)
   next-low x q z =
-      let e : names s r ≡ some x = next-some (λ y. z (q ∙ y)) ∙ ap some (sym q) in
+      let e : namedBy s r ≡ some x = next-some (λ y. z (q ∙ y)) ∙ ap some (sym q) in
       by-cases (isBlank (submodelField s r))
-      (λ b. place-low s x (names-blank s r x b e .place))
-      (λ b. ⊎-elim (λ (w : (eqb (way s r) 0 ≡ true) × Element s (modelOf s (subOf s r)) x). place-low s x (w .1 .place))
-      (λ (w : (eqb (way s r) 0 ≡ false) × Port s (modelOf s (subOf s r)) x). place-low s x (w .1 .place)) (names-below s r x b e))
+      (λ b. place-low s x (named-blank s r x b e .place))
+      (λ b. ⊎-elim (λ (w : (eqb (way s r) 0 ≡ true) × Element s (modelOf s (submodelOf s r)) x). place-low s x (w .1 .place))
+      (λ (w : (eqb (way s r) 0 ≡ false) × Port s (modelOf s (submodelOf s r)) x). place-low s x (w .1 .place)) (named-below s r x b e))
 
   pub sub-low : isBlank (submodelField s r) ≡ false → getD sub r 0 < length (s .bytes)
   unfolding submodels
   sub-low b =
-      let i = in-keep (isSubmodel s) (recordsOf s (holder s r)) (subOf s r) (sub-in s (N .declared) r here sort b) .0 in
-      rw (N .subs r here sort b) (place-low s (subOf s r) (in-records s (holder s r) (subOf s r) i .0))
+      let i = in-keep (isSubmodel s) (recordsOf s (holder s r)) (submodelOf s r) (sub-in s (N .declared) r here sort b) .0 in
+      rw (N .subs r here sort b) (place-low s (submodelOf s r) (in-records s (holder s r) (submodelOf s r) i .0))
 
   -- a blank submodel
   pub blank-is : getD sub r 0 ≡ 0 → isBlank (submodelField s r) ≡ true
@@ -213,8 +205,8 @@ module _ (s : Recipe) (sub nxt ord : List ℕ) (N : Names s sub nxt ord) (off : 
   blank-is z =
       by-cases (isBlank (submodelField s r)) (λ b. b)
       (λ b.
-      let m = in-keep (isSubmodel s) (recordsOf s (holder s r)) (subOf s r) (sub-in s (N .declared) r here sort b) .0 in
-      absurd (not-zero s (holder s r) (subOf s r) m (sym (N .subs r here sort b) ∙ z)))
+      let m = in-keep (isSubmodel s) (recordsOf s (holder s r)) (submodelOf s r) (sub-in s (N .declared) r here sort b) .0 in
+      absurd (not-zero s (holder s r) (submodelOf s r) m (sym (N .subs r here sort b) ∙ z)))
 
   pub filled-is : (getD sub r 0 ≡ 0 → ⊥) → isBlank (submodelField s r) ≡ false
   filled-is z = by-cases (isBlank (submodelField s r)) (λ b. absurd (z (N .blanks r here sort b))) (λ b. b)
@@ -227,15 +219,15 @@ module _ (s : Recipe) (sub nxt ord : List ℕ) (N : Names s sub nxt ord) (off : 
   unfolding node
   port-own zero x num u b q z c l = absurd (u refl)
   port-own (suc n) x num u b q z c l =
-      let e : names s r ≡ some x = next-some (λ y. z (q ∙ y)) ∙ ap some (sym q) in
-      let E = names-blank s r x b e in
+      let e : namedBy s r ≡ some x = next-some (λ y. z (q ∙ y)) ∙ ap some (sym q) in
+      let E = named-blank s r x b e in
       answer-some s (suc n) r (node [] x) num (target-blank s n r b ∙ ap (Option·map (node [])) e)
       (λ k. c ∙ N .orders x (E .place) (E .sort) ∙ ap (λ (d : ℕ). order s d x) (E .held) ∙ sym (number-own s (holder s r) x))
       (omega arith)
 
   module _ (filled : isBlank (submodelField s r) ≡ false) where
     abbrev m : ℕ
-    m = subOf s r
+    m = submodelOf s r
 
     m-in : In m (submodels s (holder s r))
     m-in = sub-in s (N .declared) r here sort filled
@@ -266,7 +258,7 @@ module _ (s : Recipe) (sub nxt ord : List ℕ) (N : Names s sub nxt ord) (off : 
     unfolding through node
     ref-element zero x f g num u q z k a la b lb e = absurd (u refl)
     ref-element (suc n) x f g num u q z k a la b lb e =
-        let nm : names s r ≡ some x = next-some (λ y. z (q ∙ y)) ∙ ap some (sym q) in
+        let nm : namedBy s r ≡ some x = next-some (λ y. z (q ∙ y)) ∙ ap some (sym q) in
         ⊎-elim
         (λ (w : (eqb (way s r) 0 ≡ true) × Element s (modelOf s m) x).
         let E = w .1 in
@@ -277,23 +269,23 @@ module _ (s : Recipe) (sub nxt ord : List ℕ) (N : Names s sub nxt ord) (off : 
         omega (arith, off-is f a kn, o, number-through s (holder s r) m (node [] x), number-own s (modelOf s m) x))
         (omega arith))
         (λ (w : (eqb (way s r) 0 ≡ false) × Port s (modelOf s m) x). absurd (element-not-port x k (w .1 .sort)))
-        (names-below s r x filled nm)
+        (named-below s r x filled nm)
 
     -- a further port
     pub ref-port-in : (x : ℕ) → x ≡ getD nxt r 0 → (x ≡ 0 → ⊥) → (getD (s .bytes) x 0 ≡ 2 → ⊥) → (eqb (way s r) 0 ≡ false) × Port s (modelOf s m) x
     ref-port-in x q z k =
-        let nm : names s r ≡ some x = next-some (λ y. z (q ∙ y)) ∙ ap some (sym q) in
+        let nm : namedBy s r ≡ some x = next-some (λ y. z (q ∙ y)) ∙ ap some (sym q) in
         ⊎-elim
         (λ (w : (eqb (way s r) 0 ≡ true) × Element s (modelOf s m) x). absurd (k (element-kind x (w .1 .sort))))
         (λ (w : (eqb (way s r) 0 ≡ false) × Port s (modelOf s m) x). w)
-        (names-below s r x filled nm)
+        (named-below s r x filled nm)
 
     pub ref-port : (n x f num : ℕ) (ok : Bool) (pl nu : ℕ) → (n ≡ 0 → ⊥) → x ≡ getD nxt r 0 → (x ≡ 0 → ⊥) → (getD (s .bytes) x 0 ≡ 2 → ⊥) → f ≡ getD off (getD sub r 0) 0 → f < 65536
         → Resolved s off (n - 1) x ok pl nu → num ≡ f + nu → Resolved s off n r ok pl num
     unfolding through node
     ref-port zero x f num ok pl nu u q z k a la h e = absurd (u refl)
     ref-port (suc n) x f num ok pl nu u q z k a la h e =
-        let nm : names s r ≡ some x = next-some (λ y. z (q ∙ y)) ∙ ap some (sym q) in
+        let nm : namedBy s r ≡ some x = next-some (λ y. z (q ∙ y)) ∙ ap some (sym q) in
         let w = ref-port-in x q z k in
         let one : suc n - 1 ≡ n = omega arith in
         let T : targetWithin (suc n) s r ≡ Option·map (through m) (targetWithin n s x) =

@@ -15,10 +15,9 @@ use native.Mathlib.Omega.{arith}
 use Rattle.names.specs.Lists.{In, any, joined}
 use Rattle.names.proofs.Lists.{any-in, any-some, append-left, append-right}
 use Rattle.names.proofs.Tests.{both-ways, by-cases, or-left, or-right}
-use Rattle.flat_table.specs.Table.{mostRows}
 use Rattle.recipe.specs.Definitions.{elements, main, modelOf, submodels}
 use Rattle.recipe.specs.Records.{Recipe}
-use Rattle.tree.specs.Faults.{isTooLarge, mostInstances}
+use Rattle.tree.specs.Faults.{isTooLarge, mostInstances, mostElements}
 use Rattle.tree.specs.Numbers.{Instances, ahead, firstAt, firstBelow, total, weightIn}
 use Rattle.tree.specs.Tree.{Submodels, definitionAt, definitionBelow, instances, mostDepth, nodes, pathsBelow, treeElements}
 use Rattle.tree.specs.Walk.{Covered, Grown, Long, Offsets, Right, deepIn, instsIn, over, rowsIn, rowsOver}
@@ -101,7 +100,7 @@ module _ (s : Recipe) where
 
   -- row 7, by the walk's counts
   pub too-large : isTooLarge s ≡ over 4 s main 0 0
-  unfolding isTooLarge over instances mostDepth mostInstances mostRows
+  unfolding isTooLarge over instances mostDepth mostInstances mostElements
   too-large =
       let D : any (λ path. ltb 4 (length path)) (instances s) ≡ deepIn 4 s main = any-deep 4 main in
       by-cases (deepIn 4 s main)

@@ -1,37 +1,21 @@
--- What a port or mark names, one record further, the tables of the targets, and what the floor below hands over.
+-- The tables of the targets of ports and marks, and what the floor below hands over.
 -- Assumes nothing.
 use Prim.Native.Nat.{_*_, _+_, _<_, _≤_, ℕ}
-use lib.Dec.{eqb}
 use lib.ListN.{getD, length}
-use mathlib.Core.Bool.{Bool, _||_, false, true}
+use mathlib.Core.Bool.{Bool, false, true}
 use mathlib.Core.List.{List}
-use mathlib.Core.Option.{Option, Option·getD, none, some}
+use mathlib.Core.Option.{Option·getD, none, some}
 use mathlib.Core.Path.{_≡_}
 use Rattle.names.specs.Lists.{In, isSome}
-use Rattle.names.specs.Names.{isBlank, text}
-use Rattle.recipe.specs.Definitions.{definitions, elementNamed, holder, main, modelOf, ownerOf, portNamed, submodelNamed}
+use Rattle.names.specs.Names.{isBlank}
+use Rattle.recipe.specs.Definitions.{definitions, holder, main, namedBy, ownerOf, submodelOf}
 use Rattle.recipe.specs.Reading.{fault₃, fault₅}
-use Rattle.recipe.specs.Records.{Recipe, isElement, isMark, isPort, isReplacedBy, isReplacement, places, stop, submodelField, targetField, way}
+use Rattle.recipe.specs.Records.{Recipe, isElement, isOwned, isPointer, places, stop, submodelField}
 use Rattle.heights.specs.Heights.{Heights}
 use Rattle.tree.specs.Faults.{fault₈}
 use Rattle.tree.specs.Numbers.{numberIn, order, reach}
 use Rattle.tree.specs.Tree.{Node, target, targetWithin}
 use Rattle.tree.specs.Walk.{Ground, Known}
-
--- its submodel
-unfoldable pub subOf : Recipe → ℕ → ℕ
-subOf s r = Option·getD (submodelNamed s (holder s r) (text (submodelField s r))) 0
-
--- the record that it names, an element or a port
-unfoldable pub names : Recipe → ℕ → Option ℕ
-names s r =
-    elim (isBlank (submodelField s r)) [
-      | true ↦ elementNamed s (holder s r) (text (targetField s r))
-      | false ↦ elim (eqb (way s r) 0) [
-        | true ↦ elementNamed s (modelOf s (subOf s r)) (text (targetField s r))
-        | false ↦ portNamed s (modelOf s (subOf s r)) (text (targetField s r))
-      ]
-    ]
 
 -- the lower tables, by place: a port's or mark's submodel (0 for a blank) and what it names (0 for none); an element's number in its definition
 pub record Names (s : Recipe) (sub nxt ord : List ℕ) : Type 0 where
@@ -40,9 +24,9 @@ pub record Names (s : Recipe) (sub nxt ord : List ℕ) : Type 0 where
   pub whole : stop s ≡ length (s .bytes)
   pub formed : fault₃ s ≡ none
   pub declared : fault₅ s ≡ none
-  pub subs : (r : ℕ) → In r (places s) → isMark s r || isPort s r ≡ true → isBlank (submodelField s r) ≡ false → getD sub r 0 ≡ subOf s r
-  pub blanks : (r : ℕ) → In r (places s) → isMark s r || isPort s r ≡ true → isBlank (submodelField s r) ≡ true → getD sub r 0 ≡ 0
-  pub nexts : (r : ℕ) → In r (places s) → isMark s r || isPort s r ≡ true → getD nxt r 0 ≡ Option·getD (names s r) 0
+  pub subs : (r : ℕ) → In r (places s) → isPointer s r ≡ true → isBlank (submodelField s r) ≡ false → getD sub r 0 ≡ submodelOf s r
+  pub blanks : (r : ℕ) → In r (places s) → isPointer s r ≡ true → isBlank (submodelField s r) ≡ true → getD sub r 0 ≡ 0
+  pub nexts : (r : ℕ) → In r (places s) → isPointer s r ≡ true → getD nxt r 0 ≡ Option·getD (namedBy s r) 0
   pub orders : (e : ℕ) → In e (places s) → isElement s e ≡ true → getD ord e 0 ≡ order s (holder s e) e
 
 -- what bounds the way to a target: each record's definition and, by its place, each definition's height
@@ -59,12 +43,12 @@ pub record Resolved (s : Recipe) (off : List ℕ) (n r : ℕ) (ok : Bool) (place
 
 -- the table has the targets' numbers of the marks and ports before p, where the offsets are known and the number fits
 abbrev pub Numbered : Recipe → List ℕ → List ℕ → ℕ → Type 0
-Numbered s off rel p = (r : ℕ) → In r (places s) → isMark s r || isPort s r ≡ true → r < p
+Numbered s off rel p = (r : ℕ) → In r (places s) → isPointer s r ≡ true → r < p
     → Known s off (holder s r) → reach s r < 65536 → getD rel r 0 ≡ reach s r
 
 -- the table has the places of those targets
 abbrev pub Aims : Recipe → List ℕ → ℕ → Type 0
-Aims s aims p = (r : ℕ) → In r (places s) → isMark s r || isPort s r ≡ true → r < p → (x : Node) → target s r ≡ some x → getD aims r 0 ≡ x .place
+Aims s aims p = (r : ℕ) → In r (places s) → isPointer s r ≡ true → r < p → (x : Node) → target s r ≡ some x → getD aims r 0 ≡ x .place
 
 -- the lower tables together: with them the place of an owner, by the mark's place, and the heights of definitions
 pub record Lower (s : Recipe) (hold model count sub nxt ord own height : List ℕ) : Type 0 where
@@ -72,7 +56,7 @@ pub record Lower (s : Recipe) (hold model count sub nxt ord own height : List �
   pub names : Names s sub nxt ord
   pub some-main : In main (definitions s)
   pub heights : Heights s height
-  pub owners : (r : ℕ) → In r (places s) → isReplacement s r || isReplacedBy s r ≡ true → getD own r 0 ≡ ownerOf s r
+  pub owners : (r : ℕ) → In r (places s) → isOwned s r ≡ true → getD own r 0 ≡ ownerOf s r
 
 -- what row 10 requires: rows 1, 2, 5 and 8 are clear, and the places of owners and targets
 pub record Linked (s : Recipe) (own aims : List ℕ) : Type 0 where
@@ -81,5 +65,5 @@ pub record Linked (s : Recipe) (own aims : List ℕ) : Type 0 where
   pub whole : stop s ≡ length (s .bytes)
   pub declared : fault₅ s ≡ none
   pub targeted : fault₈ s ≡ none
-  pub owners : (r : ℕ) → In r (places s) → isReplacement s r || isReplacedBy s r ≡ true → getD own r 0 ≡ ownerOf s r
+  pub owners : (r : ℕ) → In r (places s) → isOwned s r ≡ true → getD own r 0 ≡ ownerOf s r
   pub targets : Aims s aims (length (s .bytes))

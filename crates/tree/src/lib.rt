@@ -19,13 +19,6 @@ ghost use Rattle.tree.specs.Counts.{Countable, Counted};
 ghost use Rattle.tree.specs.Resolve.{Names, Measured, Resolved, Numbered, Aims, Linked};
 use names::Found;
 
-// A number of the tables, as a place or a count.
-pub fn wide(x: u16) -> usize
-    ensures { λ r. ⌜ (r ≡ x) × (r < 65536) ⌝ }
-{
-    x as usize
-}
-
 // What a walk answers: whether the tree fits, and how many instances and elements there are with those before.
 pub struct Walked {
     pub ok: bool,
@@ -83,7 +76,7 @@ fn walk(
     requires { ⌜ Ground (record { width = w; bytes = now s }) (now hold) (now model) (now count) × (In d (definitions (record { width = w; bytes = now s })) × ((left ≤ 4) × ((e ≤ 1024) × ((sub < 65536) × ((around < 65536) × Long (now inst) (now off)))))) ⌝ }
     ensures { λ r. ⌜ (r .ok ≡ not (over left (record { width = w; bytes = now (s .entry) }) d i e)) × ((r .ok ≡ true → Grown (record { width = w; bytes = now (s .entry) }) left d i e sub around (now (inst .entry)) (now (off .entry)) (now (inst .exit)) (now (off .exit)) (r .insts) (r .elems)) × Long (now (inst .exit)) (now (off .exit))) ⌝ }
 {
-    let c = wide(count[d]);
+    let c = recipe::wide(count[d]);
     if i >= 64 {
         return walk_answer(false, 0, 0);
     }
@@ -95,7 +88,7 @@ fn walk(
     let mut x = e + c;
     let mut p = d + recipe::record_length(1, w);
     while p < s.len() {
-        if wide(hold[p]) != d {
+        if recipe::wide(hold[p]) != d {
             return walk_answer(true, j, x);
         }
         let k = s[p];
@@ -104,7 +97,7 @@ fn walk(
                 return walk_answer(false, 0, 0);
             }
             off[p] = (x - e) as u16;
-            let m = wide(model[p]);
+            let m = recipe::wide(model[p]);
             let t = walk(s, w, hold, model, count, m, left - 1, j, x, p, i, inst, off);
             let ok = t.ok;
             if !ok {
@@ -169,7 +162,7 @@ pub fn count_elements(
             count[p] = 0;
             p += recipe::record_length(k, w);
         } else if k == 2 {
-            let d = wide(hold[p]);
+            let d = recipe::wide(hold[p]);
             let c = count[d];
             ord[p] = c;
             count[d] = c + 1;
@@ -201,7 +194,7 @@ fn resolve_reference(
     requires { ⌜ Names (record { width = w; bytes = now s }) (now sub) (now nxt) (now ord) × (In r (places (record { width = w; bytes = now s })) × ((isMark (record { width = w; bytes = now s }) r || isPort (record { width = w; bytes = now s }) r ≡ true) × ((n ≤ 65535) × ((isBlank (submodelField (record { width = w; bytes = now s }) r) ≡ false) × (n ≡ 0 → ⊥))))) ⌝ }
     ensures { λ a. ⌜ Resolved (record { width = w; bytes = now (s .entry) }) (now (off .entry)) n r (a .ok) (a .place) (a .num) ⌝ }
 {
-    let x = wide(nxt[r]);
+    let x = recipe::wide(nxt[r]);
     if x == 0 {
         return Target {
             ok: false,
@@ -209,10 +202,10 @@ fn resolve_reference(
             num: 0,
         };
     }
-    let m = wide(sub[r]);
-    let f = wide(off[m]);
+    let m = recipe::wide(sub[r]);
+    let f = recipe::wide(off[m]);
     if s[x] == 2 {
-        let g = wide(ord[x]);
+        let g = recipe::wide(ord[x]);
         return Target {
             ok: true,
             place: x,
@@ -251,10 +244,10 @@ fn resolve_port(
             num: 0,
         };
     }
-    if wide(sub[q]) != 0 {
+    if recipe::wide(sub[q]) != 0 {
         return resolve_reference(s, w, sub, nxt, ord, off, q, n);
     }
-    let x = wide(nxt[q]);
+    let x = recipe::wide(nxt[q]);
     if x == 0 {
         return Target {
             ok: false,
@@ -262,7 +255,7 @@ fn resolve_port(
             num: 0,
         };
     }
-    let g = wide(ord[x]);
+    let g = recipe::wide(ord[x]);
     Target {
         ok: true,
         place: x,
@@ -289,8 +282,8 @@ pub fn first_untargeted(
     let mut p = 0;
     while p < s.len() {
         let k = s[p];
-        if (k == 3) | (k >= 5) {
-            let n = wide(height[wide(hold[p])]);
+        if recipe::is_pointer(k) {
+            let n = recipe::wide(height[recipe::wide(hold[p])]);
             let t = resolve_port(s, w, sub, nxt, ord, off, p, n);
             let ok = t.ok;
             let num = t.num;
@@ -319,9 +312,9 @@ pub fn first_misclassed(s: &[u8], w: usize, own: &[u16; 16384], aims: &[u16; 163
     let mut p = 0;
     while p < s.len() {
         let k = s[p];
-        if k >= 6 {
-            let a = s[wide(own[p]) + 1 + w];
-            let b = s[wide(aims[p]) + 1 + w];
+        if recipe::is_owned(k) {
+            let a = s[recipe::wide(own[p]) + 1 + w];
+            let b = s[recipe::wide(aims[p]) + 1 + w];
             if a != b {
                 return Found::At(p);
             }

@@ -4,8 +4,9 @@ use Prim.Native.Nat.{_-_, _≤_}
 use native.Mathlib.Omega.{arith}
 use lib.ListN.{getD}
 use Rattle.names.proofs.Tables.{Filled, filled-start, filled-one}
+use Rattle.recipe.proofs.Spans.{holder-below}
 use Rattle.links.specs.Entries.{keyAt}
-use Rattle.links.proofs.Entering.{listed-in, listed-low, listed-fits, holder-below, key-is}
+use Rattle.links.proofs.Entering.{listed-in, listed-low, listed-fits, key-is}
 use Rattle.links.proofs.fill_keys.Statement.{statement}
 use Rattle.links.proofs.fill_keys.Tie as tie
 

@@ -14,11 +14,11 @@ shared-slice-read-if1 c = let x = c .before .before .before .before .before .bef
 returns : tie.Need-returns
 returns c = let x = c .before .before .before .before .before .before .before .pre in reference-other x (c .if1 .taken)
 
-mul-element-at : tie.Need-mul-element-at
-mul-element-at c = let x = c .before .before .before .before .before .before .before .pre in omega (arith, small x .0, small x .1)
-
 add-element-at : tie.Need-add-element-at
 add-element-at c = let x = c .before .before .before .before .before .before .before .pre in omega (arith, small x .0, small x .1)
+
+add-element-at-2 : tie.Need-add-element-at-2
+add-element-at-2 c = let x = c .before .before .before .before .before .before .before .pre in omega (arith, small x .0, small x .1)
 
 element-at-requires : tie.Need-element-at-requires
 element-at-requires c κs = let x = c .before .before .before .before .before .before .before .pre in (x, (c .if1 .left, inr refl))
@@ -32,7 +32,7 @@ reference-at-spec =
     (tie.spec
     shared-slice-read-if1
     returns
-    mul-element-at
     add-element-at
+    add-element-at-2
     element-at-requires
     returns-2)

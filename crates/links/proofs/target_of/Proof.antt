@@ -13,7 +13,7 @@ shared-slice-read-submodel-offset : tie.Need-shared-slice-read-submodel-offset
 shared-slice-read-submodel-offset c = let x = c .before .before .before .before .before .before .pre .0 in let l = c .before .before .before .before .before .before .pre .1 .0 in let k = c .before .before .before .before .before .before .pre .1 .1 in omega (arith, room x)
 
 submodel-offset-requires : tie.Need-submodel-offset-requires
-submodel-offset-requires c κs = search needs
+submodel-offset-requires c κs = c .before .before .before .before .before .before .pre .1 .1
 
 add-field : tie.Need-add-field
 add-field c = let x = c .before .before .before .before .before .before .before .pre .0 in let l = c .before .before .before .before .before .before .before .pre .1 .0 in let k = c .before .before .before .before .before .before .before .pre .1 .1 in omega (arith, small x .0, small x .1, room-behind x k (c .submodel-offset .ensures))

@@ -1,6 +1,6 @@
 -- `marks::refers_to_none` meets its contract: the reference field is blank.
 -- Assumes nothing.
-use Prim.Native.Nat.{_*_, _+_}
+use Prim.Native.Nat.{_+_}
 use mathlib.Core.Path.{_∙_, ap}
 use native.Mathlib.Omega.{arith}
 use Rattle.names.specs.Names.{isBlank}
@@ -16,15 +16,18 @@ add-a c =
     let u = c .before .pre in
     omega (arith, reference-low (record { width = a .w; bytes = a .s .now }) (a .p) (u .1 .1 .0) (u .1 .1 .1), u .0, u .1 .0)
 
-mul-a : tie.Need-mul-a
-mul-a c = search needs
-
 add-a-2 : tie.Need-add-a-2
-add-a-2 c = search needs
+add-a-2 c = let a = c .before .args in
+    let u = c .before .pre in
+    omega (arith, reference-low (record { width = a .w; bytes = a .s .now }) (a .p) (u .1 .1 .0) (u .1 .1 .1), u .0, u .1 .0)
 
 add-a-3 : tie.Need-add-a-3
-add-a-3 c =
-    let a = c .before .args in
+add-a-3 c = let a = c .before .args in
+    let u = c .before .pre in
+    omega (arith, reference-low (record { width = a .w; bytes = a .s .now }) (a .p) (u .1 .1 .0) (u .1 .1 .1), u .0, u .1 .0)
+
+add-a-4 : tie.Need-add-a-4
+add-a-4 c = let a = c .before .args in
     let u = c .before .pre in
     omega (arith, reference-low (record { width = a .w; bytes = a .s .now }) (a .p) (u .1 .1 .0) (u .1 .1 .1), u .0, u .1 .0)
 
@@ -50,18 +53,17 @@ is-blank-requires : tie.Need-is-blank-requires
 is-blank-requires c κs = search needs
 
 returns : tie.Need-returns
-returns c =
-    let a = c .before .before .before .args in
-    c .is-blank .ensures ∙ ap isBlank (field-is (a .w) (a .s .now) (a .p + 1 + (2 * a .w + 1)) ∙ reference-is (record { width = a .w; bytes = a .s .now }) (a .p))
+returns c = let a = c .before .before .before .args in
+    c .is-blank .ensures ∙ ap isBlank (field-is (a .w) (a .s .now) (a .p + 1 + (a .w + (1 + a .w))) ∙ reference-is (record { width = a .w; bytes = a .s .now }) (a .p))
 
 pub refers-to-none-spec : {M : Type 1} → statement M
 refers-to-none-spec =
     tie.close
     (tie.spec
     add-a
-    mul-a
     add-a-2
     add-a-3
+    add-a-4
     add-b
     sub-is-blank
     part-is-blank-start

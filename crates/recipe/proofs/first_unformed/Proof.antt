@@ -32,7 +32,7 @@ enum-told-2 : tie.Need-enum-told-2 Inv-loop μ-loop
 enum-told-2 c = search needs
 
 returns : tie.Need-returns Inv-loop μ-loop
-returns c = at-found (fault-3 _ ∙ going-hit (here _ _ _ (c .before .before .before .before .before .before .pre .1) (c .before .before .before .before .loop .inv .0) (c .before .before .before .loop-test .taken)) (refused-form _ _ (sym (c .enum-told2 .given .1) ∙ c .before .before .read-record .ensures)))
+returns c = at-found (fault-3 _ ∙ going-hit (here _ _ _ (c .before .before .before .before .before .before .pre .1) (c .before .before .before .before .loop .inv .0) (c .before .before .before .loop-test .taken)) (refused-form _ _ (here _ _ _ (c .before .before .before .before .before .before .pre .1) (c .before .before .before .before .loop .inv .0) (c .before .before .before .loop-test .taken) .readable) (sym (c .enum-told2 .given .1) ∙ c .before .before .read-record .ensures)))
 
 shared-slice-read-record-length : tie.Need-shared-slice-read-record-length Inv-loop μ-loop
 shared-slice-read-record-length c = c .before .before .before .before .loop-test .taken

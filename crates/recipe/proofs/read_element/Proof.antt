@@ -47,11 +47,11 @@ enum-told-3 c = search needs
 returns-3 : tie.Need-returns-3
 returns-3 c = element-parent _ _ (c .before .before .before .before .before .before .before .before .before .before .pre .kinded) (is-name _ (sym (c .before .before .before .before .before .before .enum-told .given .1) ∙ c .before .before .before .before .before .before .before .before .field-at .ensures)) (sym (c .before .before .before .before .is-class .ensures) ∙ not-false (c .before .before .before .before .is-class .result) (c .before .before .before .if1 .left)) (is-not-optional _ (sym (c .enum-told3 .given .1) ∙ c .before .before .optional-at .ensures))
 
-mul-optional-at : tie.Need-mul-optional-at
-mul-optional-at c = search needs
-
 add-optional-at-2 : tie.Need-add-optional-at-2
 add-optional-at-2 c = search needs
+
+add-optional-at-3 : tie.Need-add-optional-at-3
+add-optional-at-3 c = search needs
 
 optional-at-requires-2 : tie.Need-optional-at-requires-2
 optional-at-requires-2 c κs = search needs
@@ -80,8 +80,8 @@ add-t15 c = search needs
 add-t16 : tie.Need-add-t16
 add-t16 c = search needs
 
-mul-t17 : tie.Need-mul-t17
-mul-t17 c = search needs
+add-t17 : tie.Need-add-t17
+add-t17 c = search needs
 
 add-t18 : tie.Need-add-t18
 add-t18 c = search needs
@@ -109,8 +109,8 @@ read-element-spec =
     enum-told-2
     enum-told-3
     returns-3
-    mul-optional-at
     add-optional-at-2
+    add-optional-at-3
     optional-at-requires-2
     enum-told-4
     enum-told-5
@@ -120,7 +120,7 @@ read-element-spec =
     add-t14
     add-t15
     add-t16
-    mul-t17
+    add-t17
     add-t18
     add-t19
     returns-5)

@@ -1,7 +1,11 @@
 -- `recipe::read_record` meets its contract: kind by kind, as the reader of that kind answers.
 -- Assumes nothing.
+use Rattle.recipe.specs.Records.{kind}
+use mathlib.Core.Path.{refl}
+use borrow.Author.Tests.{not-true, not-false}
+use Rattle.recipe.proofs.Fields.{mark-at, no-other, deletion-read, replaced-by-read, replacement-read}
 use mathlib.Core.Path.{sym, _∙_}
-use Rattle.recipe.proofs.Fields.{of-kind, of-other, in-recipe, at-1, at-2, at-3, at-4, at-5, at-rest, mark-5, mark-6, mark-7, unmarked}
+use Rattle.recipe.proofs.Fields.{of-kind, in-recipe, at-1, at-2, at-3, at-4, unmarked}
 use borrow.Author.Needs.{needs}
 use Rattle.recipe.proofs.read_record.Statement.{statement}
 use Rattle.recipe.proofs.read_record.Tie as tie
@@ -33,8 +37,16 @@ read-submodel-requires c κs = at-4 _ _ (c .before .before .before .before .befo
 returns-4 : tie.Need-returns-4
 returns-4 c = search needs
 
+is-mark-requires : tie.Need-is-mark-requires
+is-mark-requires c κs = search needs
+
+returns-5 : tie.Need-returns-5
+unfolding kind
+returns-5 c = absurd (no-other (record { width = c .before .before .before .before .before .before .before .before .args .w; bytes = c .before .before .before .before .before .before .before .before .args .s .now }) (c .before .before .before .before .before .before .before .before .args .p) (c .before .before .before .before .before .before .before .before .pre) (c .before .before .before .before .before .if1 .left) (c .before .before .before .before .if2 .left) (c .before .before .before .if3 .left) (c .before .before .if4 .left) (sym (c .before .is-mark .ensures) ∙ not-true (c .before .is-mark .result) (c .if5 .taken)))
+
 read-mark-requires : tie.Need-read-mark-requires
-read-mark-requires c κs = at-5 _ _ (c .before .before .before .before .before .before .before .pre) (of-kind _ _ (c .if5 .taken))
+unfolding kind
+read-mark-requires c κs = mark-at (record { width = c .before .before .before .before .before .before .before .before .args .w; bytes = c .before .before .before .before .before .before .before .before .args .s .now }) (c .before .before .before .before .before .before .before .before .args .p) (c .before .before .before .before .before .before .before .before .pre) refl (sym (c .before .is-mark .ensures) ∙ not-false (c .before .is-mark .result) (c .if5 .left))
 
 enum-known-m : tie.Need-enum-known-m
 enum-known-m c = search needs
@@ -42,29 +54,26 @@ enum-known-m c = search needs
 enum-told : tie.Need-enum-told
 enum-told c = search needs
 
-returns-5 : tie.Need-returns-5
-returns-5 c = unmarked _ _ (of-other _ _ (c .before .before .before .before .before .before .before .if1 .left)) (of-other _ _ (c .before .before .before .before .before .before .if2 .left)) (of-other _ _ (c .before .before .before .before .before .if3 .left)) (of-other _ _ (c .before .before .before .before .if4 .left)) (sym (c .enum-told .given .1) ∙ c .before .before .read-mark .ensures)
-
 returns-6 : tie.Need-returns-6
-returns-6 c = mark-5 _ _ (of-kind _ _ (c .before .before .before .before .if5 .taken)) (sym (c .before .m .given .1) ∙ c .before .before .before .read-mark .ensures)
+returns-6 c = unmarked _ _ (sym (c .enum-told .given .1) ∙ c .before .before .read-mark .ensures)
 
-read-mark-requires-2 : tie.Need-read-mark-requires-2
-read-mark-requires-2 c κs = at-rest _ _ (c .before .before .before .before .before .before .before .pre) (of-other _ _ (c .before .before .before .before .if1 .left)) (of-other _ _ (c .before .before .before .if2 .left)) (of-other _ _ (c .before .before .if3 .left)) (of-other _ _ (c .before .if4 .left)) (of-other _ _ (c .if5 .left))
-
-enum-known-m-2 : tie.Need-enum-known-m-2
-enum-known-m-2 c = search needs
-
-enum-told-2 : tie.Need-enum-told-2
-enum-told-2 c = search needs
+is-deletion-requires : tie.Need-is-deletion-requires
+is-deletion-requires c κs = search needs
 
 returns-7 : tie.Need-returns-7
-returns-7 c = unmarked _ _ (of-other _ _ (c .before .before .before .before .before .before .before .if1 .left)) (of-other _ _ (c .before .before .before .before .before .before .if2 .left)) (of-other _ _ (c .before .before .before .before .before .if3 .left)) (of-other _ _ (c .before .before .before .before .if4 .left)) (sym (c .enum-told2 .given .1) ∙ c .before .before .read-mark2 .ensures)
+unfolding kind
+returns-7 c = deletion-read (record { width = c .before .before .before .before .before .before .before .before .before .before .before .before .before .before .args .w; bytes = c .before .before .before .before .before .before .before .before .before .before .before .before .before .before .args .s .now }) (c .before .before .before .before .before .before .before .before .before .before .before .before .before .before .args .p) (sym (c .before .is-deletion .ensures) ∙ c .if6 .taken) (sym (c .before .before .before .m .given .1) ∙ c .before .before .before .before .before .read-mark .ensures)
+
+is-replaced-by-requires : tie.Need-is-replaced-by-requires
+is-replaced-by-requires c κs = search needs
 
 returns-8 : tie.Need-returns-8
-returns-8 c = mark-6 _ _ (of-kind _ _ (c .if6 .taken)) (sym (c .before .before .m2 .given .1) ∙ c .before .before .before .before .read-mark2 .ensures)
+unfolding kind
+returns-8 c = replaced-by-read (record { width = c .before .before .before .before .before .before .before .before .before .before .before .before .before .before .before .before .args .w; bytes = c .before .before .before .before .before .before .before .before .before .before .before .before .before .before .before .before .args .s .now }) (c .before .before .before .before .before .before .before .before .before .before .before .before .before .before .before .before .args .p) (sym (c .before .is-replaced-by .ensures) ∙ c .if7 .taken) (sym (c .before .before .before .before .before .m .given .1) ∙ c .before .before .before .before .before .before .before .read-mark .ensures)
 
 returns-9 : tie.Need-returns-9
-returns-9 c = mark-7 _ _ (c .before .before .before .before .before .before .before .before .before .before .before .before .pre) (of-other _ _ (c .before .before .before .before .before .before .before .before .before .if1 .left)) (of-other _ _ (c .before .before .before .before .before .before .before .before .if2 .left)) (of-other _ _ (c .before .before .before .before .before .before .before .if3 .left)) (of-other _ _ (c .before .before .before .before .before .before .if4 .left)) (of-other _ _ (c .before .before .before .before .before .if5 .left)) (of-other _ _ (c .if6 .left)) (sym (c .before .before .m2 .given .1) ∙ c .before .before .before .before .read-mark2 .ensures)
+unfolding kind
+returns-9 c = replacement-read (record { width = c .before .before .before .before .before .before .before .before .before .before .before .before .before .before .before .before .args .w; bytes = c .before .before .before .before .before .before .before .before .before .before .before .before .before .before .before .before .args .s .now }) (c .before .before .before .before .before .before .before .before .before .before .before .before .before .before .before .before .args .p) (sym (c .before .before .before .before .before .before .before .before .before .is-mark .ensures) ∙ not-false (c .before .before .before .before .before .before .before .before .before .is-mark .result) (c .before .before .before .before .before .before .before .before .if5 .left)) (sym (c .before .before .before .is-deletion .ensures) ∙ c .before .before .if6 .left) (sym (c .before .is-replaced-by .ensures) ∙ c .if7 .left) (sym (c .before .before .before .before .before .m .given .1) ∙ c .before .before .before .before .before .before .before .read-mark .ensures)
 
 pub read-record-spec : {M : Type 1} → statement M
 read-record-spec =
@@ -79,14 +88,14 @@ read-record-spec =
     returns-3
     read-submodel-requires
     returns-4
+    is-mark-requires
+    returns-5
     read-mark-requires
     enum-known-m
     enum-told
-    returns-5
     returns-6
-    read-mark-requires-2
-    enum-known-m-2
-    enum-told-2
+    is-deletion-requires
     returns-7
+    is-replaced-by-requires
     returns-8
     returns-9)

@@ -17,7 +17,7 @@ use Rattle.tree.proofs.+resolve_port+resolve_reference.Lts-resolve_port
 use Rattle.tree.proofs.resolve_reference.Reads as resolve-reference
 use Rattle.tree.proofs.resolve_reference.Kinds as resolve-reference-kinds
 use Rattle.tree.proofs.+resolve_port+resolve_reference.Lts-resolve_reference as resolve-reference-lts
-use Rattle.tree.proofs.wide.Reads as wide-reads
+use Rattle.recipe.proofs.wide.Reads as wide-reads
 use Rattle.tree.proofs.+resolve_port+resolve_reference.{statement}
 use Rattle.tree.proofs.+resolve_port+resolve_reference.Tie.{close}
 

@@ -24,7 +24,7 @@ use Rattle.tree.proofs.+walk.Lts-walk as walk-lts
 use Rattle.recipe.proofs.record_length.Reads as record-length-reads
 use Rattle.tree.proofs.put_row.Reads as put-row-reads
 use Rattle.tree.proofs.walk_answer.Reads as walk-answer-reads
-use Rattle.tree.proofs.wide.Reads as wide-reads
+use Rattle.recipe.proofs.wide.Reads as wide-reads
 use Rattle.tree.proofs.+walk.{statement}
 use Rattle.tree.proofs.+walk.Tie.{close}
 
