@@ -1,12 +1,11 @@
-//! Times the library's reading and flattening of recipes beside the other program's, on recipes that grow.
+//! Times the library's flattening of recipes beside the other program's, on recipes that grow.
 //! It prints microseconds for one recipe and judges nothing.
 
-use harness::bandrolt::{flatten, read_recipe, Answer, ReadAnswer};
+use harness::bandrolt::{flatten, Answer};
 use harness::other::{recipe, RECORD};
 use harness::recipes::text::{parse, parse_example};
 use harness::tables::MAX_RECORDS;
 use harness::timing::{print_head, print_series, Pair};
-use std::fmt::Debug;
 
 type Flatten = fn(&[u8], &mut [u8]) -> Answer;
 
@@ -19,27 +18,8 @@ struct Family {
     number: u64,
 }
 
-const KILOBYTES: &[usize] = &[1, 2, 4, 8, 16];
+const KILOBYTES: &[usize] = &[1, 4, 16];
 const INSTANCES: &[usize] = &[10, 28, 64];
-
-const fn read_family(what: &'static str, recipe: fn(usize) -> String, number: u64) -> Family {
-    Family {
-        what,
-        unit: "KB",
-        sizes: KILOBYTES,
-        recipe,
-        number,
-    }
-}
-
-const READING: [Family; 6] = [
-    read_family("plant models", |kb| filled(kb, unit, nothing), 0),
-    read_family("8 in common", |kb| filled(kb, common, nothing), 0),
-    read_family("empty models", |kb| filled(kb, numbered, nothing), 0),
-    read_family("inner first", |kb| filled(kb, inner, nothing), 0),
-    read_family("outer first", |kb| filled(kb, outer, numbered), 0),
-    read_family("one cycle", |kb| filled(kb, outer, closing), 6),
-];
 
 const fn family(
     what: &'static str,
@@ -56,7 +36,13 @@ const fn family(
     }
 }
 
-const FLATTENING: [Family; 10] = [
+impl Family {
+    const fn refused(self, number: u64) -> Self {
+        Family { number, ..self }
+    }
+}
+
+const FAMILIES: [Family; 15] = [
     family("sample R", "elements", &[3], |_| {
         include_str!("../../../examples/sample-r.recipe").into()
     }),
@@ -73,52 +59,56 @@ const FLATTENING: [Family; 10] = [
             .collect();
         format!("model top\ncompartment v\n{species}")
     }),
+    family("8 in common", "KB", KILOBYTES, |kb| {
+        filled(kb, common, nothing)
+    }),
+    family("empty models", "KB", KILOBYTES, |kb| {
+        filled(kb, numbered, nothing)
+    }),
+    family("inner first", "KB", KILOBYTES, |kb| {
+        filled(kb, inner, nothing)
+    }),
+    // Main is the outermost, and the tree too deep.
+    family("outer first", "KB", KILOBYTES, |kb| {
+        filled(kb, outer, numbered)
+    })
+    .refused(7),
+    family("one cycle", "KB", KILOBYTES, |kb| {
+        filled(kb, outer, closing)
+    })
+    .refused(6),
     family(
         "ports and marks",
         "in the tree",
         &[730, 1_460, 2_920],
         pointers,
     ),
-    Family {
-        number: 9,
-        ..family(
-            "ports that conflict",
-            "in the tree",
-            &[5_040, 10_080, 20_475],
-            ports,
-        )
-    },
+    family(
+        "ports that conflict",
+        "in the tree",
+        &[5_040, 10_080, 20_475],
+        ports,
+    )
+    .refused(9),
     family("ports onto ports", "deep", &[50, 100, 200], deep_ports),
     family("five steps", "chains", &[8, 16, 32], chains),
     family("12 underscores", "prefixes", &[6, 13, 26], underscores),
 ];
 
 fn main() {
-    print_head("reading");
-    let readers: Pair<fn(&[u8]) -> ReadAnswer> = [read_recipe, |bytes| recipe::read(bytes).into()];
-    print_families(&READING, readers, |answer| answer.number);
-
     print_head("flattening");
-    let flatteners: Pair<Flatten> = [flatten, recipe::flatten];
-    let flatteners = flatteners.map(|flatten| {
+    let programs: Pair<Flatten> = [flatten, recipe::flatten];
+    let mut programs = programs.map(|flatten| {
         let mut table = vec![0; MAX_RECORDS * RECORD];
         move |recipe: &[u8]| flatten(recipe, &mut table)
     });
-    print_families(&FLATTENING, flatteners, |answer| answer.number);
-}
-
-fn print_families<A: Debug + PartialEq>(
-    families: &[Family],
-    mut programs: Pair<impl FnMut(&[u8]) -> A>,
-    number: fn(&A) -> u64,
-) {
-    for family in families {
+    for family in &FAMILIES {
         let mut series = Vec::new();
         for size in family.sizes {
             let example = parse_example(&(family.recipe)(*size)).expect("a recipe");
             let [ours, other] = programs.each_mut().map(|program| program(&example.recipe));
             assert_eq!(ours, other, "the programs answer the same");
-            assert_eq!(number(&ours), family.number, "{}", family.what);
+            assert_eq!(ours.number, family.number, "{}", family.what);
             series.push((format!("{size} {}", family.unit), vec![example.recipe]));
         }
         print_series(family.what, &mut programs, series);
@@ -163,16 +153,6 @@ fn inner(i: usize) -> String {
         0 => numbered(0),
         _ => format!("model m{i}\nsubmodel x of m{}\n", i - 1),
     }
-}
-
-/// A compartment, four species in it, a parameter, and the definition before it inside.
-fn unit(i: usize) -> String {
-    let species: String = (0..4).map(|k| format!("species s{k} -> v\n")).collect();
-    let feed = match i {
-        0 => String::new(),
-        _ => format!("submodel feed of unit{}\nreplace feed.v by v\n", i - 1),
-    };
-    format!("model unit{i}\ncompartment v\n{species}parameter k\n{feed}")
 }
 
 /// One definition of compartments whose names differ in their last characters alone.
