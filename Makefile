@@ -1,5 +1,5 @@
 # Bandrolt: run it, test it, measure it. What each target needs is said if it is missing.
-LIBRARIES = composer flat_table reading
+LIBRARIES = composer flat_table
 ARCHIVES = $(LIBRARIES:%=target/staticlib/lib%.a)
 PROGRAM = target/bin/bandrolt
 SOURCES = crates.txt $(shell find crates -name '*.rt' -o -name '*.antt')

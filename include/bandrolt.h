@@ -1,5 +1,5 @@
-/* Bandrolt's calls, for C99 and C++; link with libcomposer.a, libflat_table.a and libreading.a.
-   They flatten a recipe, tell whether a flat table is closed, and whether a recipe reads, as document 01 says it. */
+/* Bandrolt's calls, for C99 and C++; link with libcomposer.a and libflat_table.a.
+   They flatten a recipe, and tell whether a flat table is closed, as document 01 says it. */
 
 #ifndef BANDROLT_H
 #define BANDROLT_H
@@ -51,28 +51,6 @@ typedef struct bandrolt_table_answer {
 
 bandrolt_table_answer bandrolt_check_table(const uint8_t *table, size_t length);
 
-typedef struct bandrolt_read_answer {
-    uint64_t number; /* 0 for a recipe that reads, or else 1 to 6 */
-    uint64_t place;  /* offset of the record at fault, or 0 */
-} bandrolt_read_answer;
-
-/* Reads the `length` bytes at `recipe`, a recipe with names of 12 bytes, and judges what can be said without its
-   tree: the lowest number that applies, with its lowest place, or 0 and 0.
-
-     1, at 0: the recipe is empty, or over 16,384 bytes;
-     2, at a record: its kind is unknown, its body is cut short, or it is the first and no model;
-     3, at a record: a field is no name, or blank where no blank is allowed; a way or class byte has no meaning;
-        a submodel's own name ends with an underscore;
-     4, at a record: it repeats a name, or is a definition's second replaced-by with one owner;
-     5, at a record: what it names is not declared, or its parent is against the class table;
-     6, at a model: its definition reaches itself.
-
-   The call reads those bytes alone, writes none, ends on all input, keeps no state and allocates nothing.
-   `recipe` may be null only with length 0. It needs less than BANDROLT_READ_RECIPE_STACK bytes of stack. */
-#define BANDROLT_READ_RECIPE_STACK 327680
-
-bandrolt_read_answer bandrolt_read_recipe(const uint8_t *recipe, size_t length);
-
 typedef struct bandrolt_answer {
     uint64_t number; /* 0 for an accepted recipe, or else 1 to 13 */
     uint64_t place;  /* offset of the record at fault, or 0 */
@@ -80,7 +58,7 @@ typedef struct bandrolt_answer {
     uint64_t bytes;  /* what they take of the table: 205 for each */
 } bandrolt_answer;
 
-/* Flattens the `length` bytes at `recipe` into the `room` bytes at `table`.
+/* Flattens the `length` bytes at `recipe`, a recipe with names of 12 bytes, into the `room` bytes at `table`.
 
    An accepted recipe gives number 0, place 0, the number of flat records and their bytes; the records stand at the
    beginning of `table`, in the order of the tree, and bandrolt_check_table finds them closed, with the same count.
@@ -89,7 +67,13 @@ typedef struct bandrolt_answer {
    Any other recipe gives both counts 0, an unchanged `table`, and the lowest of these numbers that applies, with its
    lowest place:
 
-     1 to 6: as bandrolt_read_recipe says;
+     1, at 0: the recipe is empty, or over 16,384 bytes;
+     2, at a record: its kind is unknown, its body is cut short, or it is the first and no model;
+     3, at a record: a field is no name, or blank where no blank is allowed; a way or class byte has no meaning;
+        a submodel's own name ends with an underscore;
+     4, at a record: it repeats a name, or is a definition's second replaced-by with one owner;
+     5, at a record: what it names is not declared, or its parent is against the class table;
+     6, at a model: its definition reaches itself;
      7, at 0: there are over 64 instances with main, or over 1,024 elements in the tree, or it is over 4 deep;
      8, at a port or mark: its target doesn't exist, in any definition;
      9, at a record: it conflicts with an earlier one, somewhere in the tree;

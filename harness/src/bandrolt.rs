@@ -1,5 +1,5 @@
 //! The library's calls, made safe to call from Rust.
-//! This file uses nothing else of the harness: copy it into a program that links libcomposer.a, libflat_table.a and libreading.a.
+//! This file uses nothing else of the harness: copy it into a program that links libcomposer.a and libflat_table.a.
 
 /// What flattening answers, laid out as `bandrolt_answer` in bandrolt.h.
 ///
@@ -26,17 +26,8 @@ pub struct TableAnswer {
     pub count: u64,
 }
 
-/// What reading a recipe answers, laid out as `bandrolt_read_answer` in bandrolt.h:
-/// number 0 and place 0, or a refusal among 1 to 6 with its place.
-#[repr(C)]
-#[derive(Clone, Copy, Debug, PartialEq, Eq)]
-pub struct ReadAnswer {
-    pub number: u64,
-    pub place: u64,
-}
-
 mod c {
-    use super::{Answer, ReadAnswer, TableAnswer};
+    use super::{Answer, TableAnswer};
 
     extern "C" {
         pub fn bandrolt_flatten(
@@ -46,7 +37,6 @@ mod c {
             room: usize,
         ) -> Answer;
         pub fn bandrolt_check_table(table: *const u8, length: usize) -> TableAnswer;
-        pub fn bandrolt_read_recipe(recipe: *const u8, length: usize) -> ReadAnswer;
     }
 }
 
@@ -69,10 +59,4 @@ pub fn flatten(recipe: &[u8], table: &mut [u8]) -> Answer {
 pub fn check_table(table: &[u8]) -> TableAnswer {
     // SAFETY: pointer and length are those of a slice, which the call reads and doesn't keep.
     unsafe { c::bandrolt_check_table(table.as_ptr(), table.len()) }
-}
-
-/// Reads a recipe, of any bytes and any length: the refusals 1 to 6.
-pub fn read_recipe(recipe: &[u8]) -> ReadAnswer {
-    // SAFETY: pointer and length are those of a slice, which the call reads and doesn't keep.
-    unsafe { c::bandrolt_read_recipe(recipe.as_ptr(), recipe.len()) }
 }

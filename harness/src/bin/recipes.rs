@@ -3,7 +3,7 @@
 //! `recipes encode FILE` writes the bytes of a recipe in text, `recipes show FILE` the text of bytes, and
 //! `recipes print FILE` what 01's printing program prints of bytes, by the other program.
 
-use harness::bandrolt::{check_table, flatten, read_recipe, Answer, ReadAnswer, TableAnswer};
+use harness::bandrolt::{check_table, flatten, Answer, TableAnswer};
 use harness::other::recipe::rules::{Rules, MUTANTS};
 use harness::other::recipe::slow::{self, conflicts, Conflict};
 use harness::other::{recipe, table, RECORD};
@@ -25,19 +25,9 @@ const LEAST_OF_A_NUMBER: usize = 1_250;
 const LEAST_OF_A_CONFLICT: usize = 250;
 const USAGE: &str = "usage: recipes [SEED] | recipes few | recipes encode|show|print FILE";
 
-type Read = fn(&[u8]) -> ReadAnswer;
 type Flatten = fn(&[u8], &mut [u8]) -> Answer;
 
-/// The programs that read recipes, rows 1 to 6; all must answer what the first does.
-const READERS: &[(&str, Read)] = &[
-    ("other", |recipe| recipe::read(recipe).into()),
-    ("slow", |recipe| {
-        slow::read(recipe, &Rules::default()).into()
-    }),
-    ("library", read_recipe),
-];
-
-/// The programs that flatten them; all must answer and write what the first does.
+/// The programs that flatten recipes; all must answer and write what the first does.
 const FLATTENERS: &[(&str, Flatten)] = &[
     ("other", recipe::flatten),
     ("slow", |recipe, table| {
@@ -204,20 +194,10 @@ fn pattern(length: usize) -> Vec<u8> {
 fn complaint(recipe: &[u8], rooms: &[usize]) -> Option<String> {
     // Boxes have no spare bytes, so valgrind sees what is read or written beyond them.
     let lent = recipe.to_vec().into_boxed_slice();
-    let read = recipe::read(recipe).into();
-    for (program, reader) in &READERS[1..] {
-        let answer = reader(&lent);
-        if answer != read {
-            return Some(format!("{program} reads it as {answer:?}, not {read:?}"));
-        }
-        if *lent != *recipe {
-            return Some(format!("{program} changes the recipe in reading"));
-        }
-    }
     for &room in rooms {
         let mut output = pattern(room);
         let answer = recipe::flatten(recipe, &mut output);
-        if let Some(fault) = fault(&read, &answer, &output) {
+        if let Some(fault) = fault(&answer, &output) {
             return Some(format!("{answer:?} with {room} bytes: {fault}"));
         }
         for (program, flatten) in &FLATTENERS[1..] {
@@ -240,15 +220,11 @@ fn complaint(recipe: &[u8], rooms: &[usize]) -> Option<String> {
 }
 
 /// What an answer and its output have to be, whatever the recipe.
-fn fault(read: &ReadAnswer, answer: &Answer, output: &[u8]) -> Option<&'static str> {
+fn fault(answer: &Answer, output: &[u8]) -> Option<&'static str> {
     let bytes = answer.bytes as usize;
     let Some((written, rest)) = output.split_at_checked(bytes) else {
         return Some("it has more bytes than the output");
     };
-    let refusal = (answer.number <= 6).then_some((answer.number, answer.place));
-    if refusal.unwrap_or((0, 0)) != (read.number, read.place) {
-        return Some("reading says something else");
-    }
     if bytes != answer.count as usize * RECORD || answer.number != 0 && bytes != 0 {
         return Some("its counts are wrong");
     }

@@ -6,7 +6,7 @@ pub mod recipe;
 pub mod rules;
 pub mod table;
 
-use crate::bandrolt::{Answer, ReadAnswer, TableAnswer};
+use crate::bandrolt::{Answer, TableAnswer};
 
 /// The length of a recipe's name field.
 pub const NAME: usize = 12;
@@ -64,16 +64,6 @@ impl From<Verdict> for TableAnswer {
             number: answer.number,
             place: answer.place,
             count: answer.count,
-        }
-    }
-}
-
-impl From<Result<(), Refusal>> for ReadAnswer {
-    fn from(verdict: Result<(), Refusal>) -> Self {
-        let answer = Answer::from(verdict.map(|()| 0));
-        ReadAnswer {
-            number: answer.number,
-            place: answer.place,
         }
     }
 }

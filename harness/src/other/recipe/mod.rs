@@ -17,11 +17,6 @@ use marks::Fates;
 use targets::Targets;
 use tree::Tree;
 
-/// Rows 1 to 6.
-pub fn read(recipe: &[u8]) -> Result<(), Refusal> {
-    definitions::read(recipe).map(|_| ())
-}
-
 /// Rows 1 to 12: "The lowest number that applies is given, then its lowest place."
 pub fn judge(recipe: &[u8]) -> Result<Flat, Refusal> {
     let recipe = definitions::read(recipe)?;

@@ -158,13 +158,9 @@ struct Reading<'a> {
     gone: HashSet<Spot>,
 }
 
-pub fn read(recipe: &[u8], rules: &Rules) -> Result<(), Refusal> {
-    Reading::new(recipe, rules)?.judge(|number| number <= 6)
-}
-
 pub fn flatten(recipe: &[u8], table: &mut [u8], rules: &Rules) -> Answer {
     let verdict = Reading::new(recipe, rules).and_then(|mut reading| {
-        reading.judge(|_| true)?;
+        reading.judge()?;
         reading.write(table)
     });
     verdict.into()
@@ -177,7 +173,7 @@ pub fn conflicts(recipe: &[u8]) -> BTreeSet<(Conflict, bool)> {
     let Ok(mut reading) = Reading::new(recipe, &rules) else {
         return BTreeSet::new();
     };
-    match reading.judge(|_| true) {
+    match reading.judge() {
         Err(Refusal { number: 9, place }) => {
             let conflicts = reading.conflicts().into_iter();
             conflicts
@@ -272,9 +268,9 @@ impl<'a> Reading<'a> {
         })
     }
 
-    fn judge(&mut self, is_asked: fn(u64) -> bool) -> Result<(), Refusal> {
+    fn judge(&mut self) -> Result<(), Refusal> {
         for rank in 3..=12 {
-            let is_judged = |&number: &u64| (self.rules.rank)(number) == rank && is_asked(number);
+            let is_judged = |&number: &u64| (self.rules.rank)(number) == rank;
             let numbers: Vec<u64> = (3..=12).filter(is_judged).collect();
             let mut found: Option<Refusal> = None;
             for number in numbers {
