@@ -1,6 +1,7 @@
-//! What the programs that check have in common: the tally at their end, the seed of the clock,
-//! and a file for what differs.
+//! What the programs that check have in common: the tally at their end, what is counted on the way,
+//! the seed of the clock, and a file for what differs.
 
+use std::collections::BTreeMap;
 use std::process::ExitCode;
 use std::time::{SystemTime, UNIX_EPOCH};
 
@@ -25,6 +26,16 @@ impl Tally {
         println!("{} passed, {} failed", self.passed, self.failed);
         ExitCode::from(u8::from(self.failed > 0))
     }
+}
+
+/// Is each of these counted so often? What is not in the counts is not.
+pub fn are_often<T: Ord>(
+    counts: &BTreeMap<T, usize>,
+    wanted: impl IntoIterator<Item = T>,
+    least: usize,
+) -> bool {
+    let mut wanted = wanted.into_iter();
+    wanted.all(|thing| counts.get(&thing) >= Some(&least))
 }
 
 pub fn seed_from_clock() -> u64 {

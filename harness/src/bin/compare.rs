@@ -5,20 +5,20 @@ use harness::bandrolt::{check_table, TableAnswer};
 use harness::other::rules::{self, Rules, MUTANTS};
 use harness::other::{table, RECORD};
 use harness::random::Random;
-use harness::report::{save, seed_from_clock, Tally};
+use harness::report::{are_often, save, seed_from_clock, Tally};
 use harness::tables::{case, closed, encode, Links, Names, Record, MAX_RECORDS};
+use std::collections::BTreeMap;
 use std::process::ExitCode;
 
 const FIXED_SEED: u64 = 1;
 const CASES_OF_A_SEED: u64 = 20_000;
+/// The numbers that tables are answered with; each must come often enough.
 const NUMBERS: [u64; 5] = [0, 14, 15, 16, 17];
 const LEAST_OF_A_NUMBER: usize = 500;
 
 /// What the tables of one seed have shown.
 struct Outcome {
     agrees: bool,
-    /// How often each of `NUMBERS` was answered.
-    counts: [usize; NUMBERS.len()],
     /// The first case that tells each mutant from the other program.
     told_by: Vec<Option<u64>>,
 }
@@ -44,17 +44,16 @@ fn main() -> ExitCode {
     let is_sample_r = encode(&sample_r()) == example;
     tally.add("examples/sample-r.table is sample R", is_sample_r);
 
+    let mut numbers = BTreeMap::new();
     let outcomes = [FIXED_SEED, seed].map(|seed| {
         println!("{CASES_OF_A_SEED} random tables of seed {seed}");
-        let outcome = run(seed);
+        let outcome = run(seed, &mut numbers);
         tally.add("the programs agree", outcome.agrees);
         outcome
     });
 
-    let counts: [usize; NUMBERS.len()] =
-        std::array::from_fn(|k| outcomes.iter().map(|outcome| outcome.counts[k]).sum());
-    println!("numbers {NUMBERS:?} answered {counts:?} times");
-    let is_mixed = counts.iter().all(|&count| count >= LEAST_OF_A_NUMBER);
+    println!("numbers answered, with how often: {numbers:?}");
+    let is_mixed = are_often(&numbers, NUMBERS, LEAST_OF_A_NUMBER);
     tally.add("each number is answered often enough", is_mixed);
 
     println!(
@@ -74,12 +73,11 @@ fn other_answer(table: &[u8]) -> TableAnswer {
     table::check(table).into()
 }
 
-fn run(seed: u64) -> Outcome {
+fn run(seed: u64, numbers: &mut BTreeMap<u64, usize>) -> Outcome {
     let document = Rules::default();
     let mutants: Vec<Rules> = MUTANTS.iter().map(|(_, bend)| Rules::bent(*bend)).collect();
     let mut outcome = Outcome {
         agrees: true,
-        counts: [0; NUMBERS.len()],
         told_by: vec![None; mutants.len()],
     };
     for number in 0..CASES_OF_A_SEED {
@@ -96,9 +94,7 @@ fn run(seed: u64) -> Outcome {
             println!("library {ours:?}\nother {other:?}\nslow {slow:?}");
             save(&before, &format!("difference-{seed}.hex"));
         }
-        if let Some(k) = NUMBERS.iter().position(|&n| n == other.number) {
-            outcome.counts[k] += 1;
-        }
+        *numbers.entry(other.number).or_default() += 1;
         for (told_by, mutant) in outcome.told_by.iter_mut().zip(&mutants) {
             // A mutant is run until it is told, since the slow program is slow.
             if told_by.is_none() && TableAnswer::from(rules::check(&table, mutant)) != other {

@@ -12,15 +12,18 @@ use harness::recipes::enumerate::each_recipe;
 use harness::recipes::generate::case;
 use harness::recipes::named::{edges, examples, to_try, Named, ROOM};
 use harness::recipes::{other_prints, printed, text};
-use harness::report::{save, seed_from_clock, Tally};
+use harness::report::{are_often, save, seed_from_clock, Tally};
 use std::collections::BTreeMap;
 use std::io::Write;
+use std::ops::RangeInclusive;
 use std::process::ExitCode;
 use std::time::Instant;
 
 const FIXED_SEED: u64 = 1;
 const CASES_OF_A_SEED: u64 = 50_000;
 const FEW_CASES: u64 = 300;
+/// The numbers that recipes are answered with; each must come often enough.
+const NUMBERS: RangeInclusive<u64> = 0..=13;
 const LEAST_OF_A_NUMBER: usize = 1_250;
 const LEAST_OF_A_CONFLICT: usize = 250;
 const USAGE: &str = "usage: recipes [SEED] | recipes few | recipes encode|show|print FILE";
@@ -83,7 +86,7 @@ struct Outcome {
     /// Recipes on which the programs differ, or which one of them answers badly.
     differing: usize,
     /// How often each number was answered.
-    numbers: [usize; 14],
+    numbers: BTreeMap<u64, usize>,
     /// In how many recipes each kind of conflict decided the place, or was beside one that did.
     conflicts: BTreeMap<(Conflict, bool), usize>,
     /// The mutants that are tried, and for each the first recipe that tells it from 01.
@@ -131,15 +134,13 @@ fn check(seed: u64) -> ExitCode {
     let mut outcomes = Vec::new();
     for seed in [FIXED_SEED, seed] {
         let outcome = check_random(seed, CASES_OF_A_SEED, &mutants, &mut tally);
-        let rarest = outcome.numbers.iter().min();
-        let is_mixed = rarest >= Some(&LEAST_OF_A_NUMBER);
+        let is_mixed = are_often(&outcome.numbers, NUMBERS, LEAST_OF_A_NUMBER);
         tally.add("each number is answered often enough", is_mixed);
-        let often = |conflict: Conflict, decides: bool| {
-            let count = outcome.conflicts.get(&(conflict, decides));
-            count >= Some(&LEAST_OF_A_CONFLICT)
-        };
-        let is_mixed = Conflict::DECIDING.iter().all(|&c| often(c, true))
-            && often(Conflict::MarksLowerFirst, false);
+        let deciding = Conflict::DECIDING
+            .into_iter()
+            .map(|conflict| (conflict, true));
+        let wanted = deciding.chain([(Conflict::MarksLowerFirst, false)]);
+        let is_mixed = are_often(&outcome.conflicts, wanted, LEAST_OF_A_CONFLICT);
         tally.add("each conflict is there often enough", is_mixed);
         outcomes.push(outcome);
     }
@@ -246,7 +247,7 @@ impl Outcome {
         Outcome {
             recipes: 0,
             differing: 0,
-            numbers: [0; 14],
+            numbers: BTreeMap::new(),
             conflicts: BTreeMap::new(),
             told_by: mutants.map(|k| (k, None)).collect(),
         }
@@ -283,7 +284,7 @@ impl Outcome {
         let room = random.pick(&rooms);
         let mut output = pattern(room);
         let answer = recipe::flatten(recipe, &mut output);
-        self.numbers[answer.number as usize] += 1;
+        *self.numbers.entry(answer.number).or_default() += 1;
         if answer.number == 9 {
             for conflict in conflicts(recipe) {
                 *self.conflicts.entry(conflict).or_default() += 1;
@@ -305,7 +306,7 @@ impl Outcome {
     fn print(&self, what: &str, start: Instant) {
         let seconds = start.elapsed().as_secs_f64();
         println!("{} {what}, {seconds:.1} s", self.recipes);
-        println!("  numbers 0 to 13 answered {:?} times", self.numbers);
+        println!("  numbers answered, with how often: {:?}", self.numbers);
         for ((conflict, decides), count) in &self.conflicts {
             let decides = if *decides {
                 "decides"
