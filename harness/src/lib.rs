@@ -1,7 +1,8 @@
 //! What the harness's programs share: the library's calls, the other program,
-//! and the tables and recipes that all are given.
+//! the tables and recipes that all are given, and the checks of what they answer.
 
 pub mod bandrolt;
+pub mod checks;
 pub mod collisions;
 pub mod other;
 pub mod random;

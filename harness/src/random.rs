@@ -4,6 +4,7 @@
 use std::cell::Cell;
 
 /// A cell, so that one draw can stand within another's arguments.
+#[derive(Clone)]
 pub struct Random(Cell<u64>);
 
 impl Random {

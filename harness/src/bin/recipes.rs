@@ -3,10 +3,10 @@
 //! `recipes encode FILE` writes the bytes of a recipe in text, `recipes show FILE` the text of bytes, and
 //! `recipes print FILE` what 01's printing program prints of bytes, by the other program.
 
-use harness::bandrolt::{check_table, flatten, Answer, TableAnswer};
+use harness::checks::{complaint, pattern, FLATTENERS};
 use harness::other::recipe::rules::{Rules, MUTANTS};
 use harness::other::recipe::slow::{self, conflicts, Conflict};
-use harness::other::{recipe, table, RECORD};
+use harness::other::{recipe, RECORD};
 use harness::random::Random;
 use harness::recipes::enumerate::each_recipe;
 use harness::recipes::generate::case;
@@ -27,20 +27,6 @@ const NUMBERS: RangeInclusive<u64> = 0..=13;
 const LEAST_OF_A_NUMBER: usize = 1_250;
 const LEAST_OF_A_CONFLICT: usize = 250;
 const USAGE: &str = "usage: recipes [SEED] | recipes few | recipes encode|show|print FILE";
-
-type Flatten = fn(&[u8], &mut [u8]) -> Answer;
-
-/// The programs that flatten recipes; all must answer and write what the first does.
-const FLATTENERS: &[(&str, Flatten)] = &[
-    ("other", recipe::flatten),
-    ("slow", |recipe, table| {
-        slow::flatten(recipe, table, &Rules::default())
-    }),
-    ("library", flatten),
-];
-
-/// The programs that check tables; all must find closed what flattening leaves.
-const CHECKS: &[fn(&[u8]) -> TableAnswer] = &[|table| table::check(table).into(), check_table];
 
 fn main() -> ExitCode {
     let arguments: Vec<String> = std::env::args().skip(1).collect();
@@ -183,63 +169,7 @@ fn prints_as_said(named: &Named) -> bool {
             println!("{program} prints of {}:\n{shown}", named.what);
         }
         shown == *prints
-    }) && complaint(recipe, &[*room]).is_none()
-}
-
-/// Bytes that no flat table has at these places.
-fn pattern(length: usize) -> Vec<u8> {
-    (0..length).map(|i| 0x80 | i as u8).collect()
-}
-
-/// What is wrong with the programs' answers to a recipe, with outputs of these lengths.
-fn complaint(recipe: &[u8], rooms: &[usize]) -> Option<String> {
-    // Boxes have no spare bytes, so valgrind sees what is read or written beyond them.
-    let lent = recipe.to_vec().into_boxed_slice();
-    for &room in rooms {
-        let mut output = pattern(room);
-        let answer = recipe::flatten(recipe, &mut output);
-        if let Some(fault) = fault(&answer, &output) {
-            return Some(format!("{answer:?} with {room} bytes: {fault}"));
-        }
-        for (program, flatten) in &FLATTENERS[1..] {
-            let mut theirs = pattern(room).into_boxed_slice();
-            let their_answer = flatten(&lent, &mut theirs);
-            if their_answer != answer {
-                return Some(format!(
-                    "{program} answers {their_answer:?} with {room} bytes, not {answer:?}"
-                ));
-            }
-            if *theirs != *output {
-                return Some(format!("{program} writes another output of {room} bytes"));
-            }
-            if *lent != *recipe {
-                return Some(format!("{program} changes the recipe"));
-            }
-        }
-    }
-    None
-}
-
-/// What an answer and its output have to be, whatever the recipe.
-fn fault(answer: &Answer, output: &[u8]) -> Option<&'static str> {
-    let bytes = answer.bytes as usize;
-    let Some((written, rest)) = output.split_at_checked(bytes) else {
-        return Some("it has more bytes than the output");
-    };
-    if bytes != answer.count as usize * RECORD || answer.number != 0 && bytes != 0 {
-        return Some("its counts are wrong");
-    }
-    if *rest != pattern(output.len())[bytes..] {
-        return Some("the rest of the output is changed");
-    }
-    // Demand 3: what flattening leaves is closed.
-    let closed = TableAnswer {
-        number: 0,
-        place: 0,
-        count: answer.count,
-    };
-    let is_closed = CHECKS.iter().all(|check| check(written) == closed);
-    (!is_closed).then_some("the table is not closed")
+    }) && complaint(recipe, &[*room], &Random::new(FIXED_SEED)).is_none()
 }
 
 impl Outcome {
@@ -266,7 +196,7 @@ impl Outcome {
             }
             Err(_) => vec![random.pick(&[0, RECORD - 1, 5 * RECORD])],
         };
-        if let Some(complaint) = complaint(recipe, &rooms) {
+        if let Some(complaint) = complaint(recipe, &rooms, random) {
             self.differing += 1;
             if self.differing == 1 {
                 println!("recipe {}: {complaint}", self.recipes);
