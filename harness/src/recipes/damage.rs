@@ -2,7 +2,7 @@
 //! faults in its records, and faults in its bytes.
 
 use super::draft::{fresh_port, pick, Draft};
-use super::{Field, Record, Target, BLANK};
+use super::{Field, Part, Record, Target, BLANK, KINDS};
 use crate::other::{MAX_RECIPE, NAME};
 use crate::random::Random;
 use crate::tables::field;
@@ -18,32 +18,19 @@ pub fn damage(draft: &mut Draft, faults: &[Fault], random: &Random) {
 
 impl Record {
     fn fields(&mut self) -> Vec<&mut Field> {
-        match self {
-            Record::Model { name } => vec![name],
-            Record::Element {
-                name,
-                parent,
-                reference,
-                ..
-            } => vec![name, parent, reference],
-            Record::Submodel { name, model } => vec![name, model],
-            Record::Port { name, target } => vec![name, &mut target.submodel, &mut target.name],
-            Record::Deletion { target } => vec![&mut target.submodel, &mut target.name],
-            Record::Replacement { owner, target } | Record::ReplacedBy { owner, target } => {
-                vec![owner, &mut target.submodel, &mut target.name]
-            }
-            Record::Bytes(_) => Vec::new(),
-        }
+        let fields = |part| match part {
+            Part::Name(name) => vec![name],
+            Part::Class(_) => Vec::new(),
+            Part::Target(target) => vec![&mut target.submodel, &mut target.name],
+        };
+        self.parts().into_iter().flat_map(fields).collect()
     }
 
     fn target(&mut self) -> Option<&mut Target> {
-        match self {
-            Record::Port { target, .. }
-            | Record::Deletion { target }
-            | Record::Replacement { target, .. }
-            | Record::ReplacedBy { target, .. } => Some(target),
+        self.parts().into_iter().find_map(|part| match part {
+            Part::Target(target) => Some(target),
             _ => None,
-        }
+        })
     }
 }
 
@@ -465,10 +452,13 @@ pub fn damaged_bytes(mut recipe: Vec<u8>, random: &Random) -> Vec<u8> {
         0 => recipe.clear(),
         1 | 2 => recipe.truncate(random.below(length)),
         3 => recipe[random.below(length)] = random.byte(),
-        4 => recipe[0] = random.pick(&[0, 2, 3, 4, 5, 6, 7, 8, 255]),
+        4 => {
+            let unknown = KINDS.len() as u8 + 1;
+            recipe[0] = random.pick(&[&[0], &KINDS[1..], &[unknown, 255]].concat());
+        }
         5 => recipe.extend(vec![0; 1 + random.below(40)]),
         6 => {
-            recipe.push(random.pick(&[1, 2, 3, 4, 5, 6, 7]));
+            recipe.push(random.pick(KINDS));
             recipe.extend(vec![b'a'; random.below(12)]);
         }
         7 => {

@@ -14,47 +14,17 @@ use crate::other::recipe::flatten;
 use crate::other::rules::before_zero;
 use crate::other::{FIELD, NAME, RECORD};
 use crate::tables::field;
+use std::slice::from_mut;
 
 pub type Field = [u8; NAME];
 
 pub const BLANK: Field = [0; NAME];
 
-/// A record of any content, sense or nonsense.
-#[derive(Clone, Debug, PartialEq)]
-pub enum Record {
-    Model {
-        name: Field,
-    },
-    Element {
-        name: Field,
-        class: u8,
-        parent: Field,
-        reference: Field,
-    },
-    Port {
-        name: Field,
-        target: Target,
-    },
-    Submodel {
-        name: Field,
-        model: Field,
-    },
-    Deletion {
-        target: Target,
-    },
-    Replacement {
-        owner: Field,
-        target: Target,
-    },
-    ReplacedBy {
-        owner: Field,
-        target: Target,
-    },
-    /// Bytes that are no record, such as one that is cut short.
-    Bytes(Vec<u8>),
-}
+// What the table of kinds calls its parts.
+type Name = Field;
+type Class = u8;
 
-#[derive(Clone, Copy, Debug, PartialEq)]
+#[derive(Clone, Copy, Debug, Default, PartialEq)]
 pub struct Target {
     pub submodel: Field,
     pub way: u8,
@@ -79,6 +49,79 @@ impl Target {
     }
 }
 
+/// A part of a record's body.
+pub enum Part<'a> {
+    Name(&'a mut Name),
+    Class(&'a mut Class),
+    Target(&'a mut Target),
+}
+
+impl<'a> Part<'a> {
+    /// Its bytes, field by field.
+    fn bytes(self) -> Vec<&'a mut [u8]> {
+        match self {
+            Part::Name(name) => vec![name],
+            Part::Class(class) => vec![from_mut(class)],
+            Part::Target(Target {
+                submodel,
+                way,
+                name,
+            }) => vec![submodel, from_mut(way), name],
+        }
+    }
+}
+
+/// Makes the enum of records from a table of kinds; all else goes by `kind` and `parts`.
+macro_rules! kinds {
+    ($($number:literal $kind:ident { $($part:ident: $type:ident),+ })+) => {
+        /// A record of any content, sense or nonsense.
+        #[derive(Clone, Debug, PartialEq)]
+        pub enum Record {
+            $($kind { $($part: $type),+ },)+
+            /// Bytes that are no record, such as one that is cut short.
+            Bytes(Vec<u8>),
+        }
+
+        pub const KINDS: &[u8] = &[$($number),+];
+
+        impl Record {
+            /// A record of a kind, with zeros for its body.
+            pub fn zeros(kind: u8) -> Option<Self> {
+                match kind {
+                    $($number => Some(Record::$kind { $($part: Default::default()),+ }),)+
+                    _ => None,
+                }
+            }
+
+            pub fn kind(&self) -> Option<u8> {
+                match self {
+                    $(Record::$kind { .. } => Some($number),)+
+                    Record::Bytes(_) => None,
+                }
+            }
+
+            /// The parts of the body, in order.
+            pub fn parts(&mut self) -> Vec<Part<'_>> {
+                match self {
+                    $(Record::$kind { $($part),+ } => vec![$(Part::$type($part)),+],)+
+                    Record::Bytes(_) => Vec::new(),
+                }
+            }
+        }
+    };
+}
+
+// 01's table: a kind is added here, and a line for it in `text`.
+kinds! {
+    1 Model { name: Name }
+    2 Element { name: Name, class: Class, parent: Name, reference: Name }
+    3 Port { name: Name, target: Target }
+    4 Submodel { name: Name, model: Name }
+    5 Deletion { target: Target }
+    6 Replacement { owner: Name, target: Target }
+    7 ReplacedBy { owner: Name, target: Target }
+}
+
 impl Record {
     pub fn parameter(name: &str) -> Self {
         Record::Element {
@@ -90,65 +133,26 @@ impl Record {
     }
 
     pub fn encode(&self) -> Vec<u8> {
-        let pointed = |t: &Target| [&t.submodel[..], &[t.way], &t.name].concat();
-        match self {
-            Record::Model { name } => [&[1], &name[..]].concat(),
-            Record::Element {
-                name,
-                class,
-                parent,
-                reference,
-            } => [&[2], &name[..], &[*class], parent, reference].concat(),
-            Record::Port { name, target } => [&[3], &name[..], &pointed(target)].concat(),
-            Record::Submodel { name, model } => [&[4], &name[..], model].concat(),
-            Record::Deletion { target } => [&[5], &pointed(target)[..]].concat(),
-            Record::Replacement { owner, target } => [&[6], &owner[..], &pointed(target)].concat(),
-            Record::ReplacedBy { owner, target } => [&[7], &owner[..], &pointed(target)].concat(),
-            Record::Bytes(bytes) => bytes.clone(),
+        if let Record::Bytes(bytes) = self {
+            return bytes.clone();
         }
+        let mut encoded = Vec::from_iter(self.kind());
+        for bytes in self.clone().parts().into_iter().flat_map(Part::bytes) {
+            encoded.extend_from_slice(bytes);
+        }
+        encoded
     }
 
-    /// Decodes one record that is whole; its bytes and those after it.
+    /// Decodes one record that is whole; it comes with the bytes after it.
     fn decode(recipe: &[u8]) -> Option<(Record, &[u8])> {
-        let (&kind, rest) = recipe.split_first()?;
-        let name = |place: usize| rest.get(place..)?.first_chunk::<NAME>().copied();
-        let byte = |place: usize| rest.get(place).copied();
-        let target = |place: usize| {
-            Some(Target {
-                submodel: name(place)?,
-                way: byte(place + NAME)?,
-                name: name(place + NAME + 1)?,
-            })
-        };
-        let record = match kind {
-            1 => Record::Model { name: name(0)? },
-            2 => Record::Element {
-                name: name(0)?,
-                class: byte(NAME)?,
-                parent: name(NAME + 1)?,
-                reference: name(2 * NAME + 1)?,
-            },
-            3 => Record::Port {
-                name: name(0)?,
-                target: target(NAME)?,
-            },
-            4 => Record::Submodel {
-                name: name(0)?,
-                model: name(NAME)?,
-            },
-            5 => Record::Deletion { target: target(0)? },
-            6 => Record::Replacement {
-                owner: name(0)?,
-                target: target(NAME)?,
-            },
-            7 => Record::ReplacedBy {
-                owner: name(0)?,
-                target: target(NAME)?,
-            },
-            _ => return None,
-        };
-        let length = record.encode().len();
-        Some((record, &recipe[length..]))
+        let (&kind, mut rest) = recipe.split_first()?;
+        let mut record = Record::zeros(kind)?;
+        for bytes in record.parts().into_iter().flat_map(Part::bytes) {
+            let (read, after) = rest.split_at_checked(bytes.len())?;
+            bytes.copy_from_slice(read);
+            rest = after;
+        }
+        Some((record, rest))
     }
 }
 
