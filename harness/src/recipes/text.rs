@@ -24,9 +24,10 @@
 //! out. After `#` comes a remark, which printing uses for the record's place. Indentation is free.
 //! In an example file a line `gives` follows, and then what 01's printing program prints.
 
-use super::{decode, encode, Field, Record, Target, BLANK};
+use super::{decode, encode, Field, Part, Record, Target, BLANK};
 use crate::other::rules::before_zero;
 use crate::tables::field;
+use Piece::*;
 
 const CLASSES: [&str; 7] = [
     "compartment",
@@ -38,17 +39,39 @@ const CLASSES: [&str; 7] = [
     "local-parameter",
 ];
 
+const NOTHING: &str = "-";
+
+/// A piece of a kind's line.
+enum Piece {
+    Word(&'static str),
+    /// The part of the body with this number.
+    At(usize),
+    /// A sign and a part, both left out where that is blank.
+    Link(&'static str, usize),
+}
+
+/// Each kind's line; no line has two forms.
+const FORMS: [(u8, &[Piece]); 7] = [
+    (1, &[Word("model"), At(0)]),
+    (2, &[At(1), At(0), Link("in", 2), Link("->", 3)]),
+    (3, &[Word("port"), At(0), Word("="), At(1)]),
+    (4, &[Word("submodel"), At(0), Word("of"), At(1)]),
+    (5, &[Word("delete"), At(0)]),
+    (6, &[Word("replace"), At(1), Word("by"), At(0)]),
+    (7, &[At(0), Word("replaced"), Word("by"), At(1)]),
+];
+
 /// A recipe as text, each record with its place.
 pub fn print(recipe: &[u8]) -> String {
     let mut place = 0;
     let mut text = String::new();
-    for record in decode(recipe) {
+    for mut record in decode(recipe) {
         let bytes = record.encode();
         let indent = match record {
             Record::Model { .. } => "",
             _ => "  ",
         };
-        let line = line(&record).unwrap_or_else(|| {
+        let line = line(&mut record).unwrap_or_else(|| {
             let bytes = bytes.iter().map(|b| format!(" {b:02x}"));
             bytes.fold("bytes".into(), |line, byte| line + &byte)
         });
@@ -60,40 +83,41 @@ pub fn print(recipe: &[u8]) -> String {
 }
 
 /// A record's line, if all its fields are names or blanks and its bytes have a meaning.
-fn line(record: &Record) -> Option<String> {
-    Some(match record {
-        Record::Model { name } => format!("model {}", word(name)?),
-        Record::Element {
-            name,
-            class,
-            parent,
-            reference,
-        } => {
+fn line(record: &mut Record) -> Option<String> {
+    let kind = record.kind();
+    let (_, form) = FORMS.iter().find(|(number, _)| Some(*number) == kind)?;
+    let parts = record.parts().into_iter().map(print_part);
+    let parts: Vec<String> = parts.collect::<Option<_>>()?;
+    let mut words: Vec<&str> = Vec::new();
+    for piece in *form {
+        match *piece {
+            Word(word) => words.push(word),
+            At(part) => words.push(&parts[part]),
+            Link(_, part) if parts[part] == NOTHING => {}
+            Link(sign, part) => words.extend([sign, &parts[part]]),
+        }
+    }
+    Some(words.join(" "))
+}
+
+fn print_part(part: Part) -> Option<String> {
+    match part {
+        Part::Name(name) => word(name),
+        Part::Class(class) => {
             let class = CLASSES.get(usize::from(*class).checked_sub(1)?)?;
-            let mut line = format!("{class} {}", word(name)?);
-            for (sign, link) in [("in", parent), ("->", reference)] {
-                if *link != BLANK {
-                    line += &format!(" {sign} {}", word(link)?);
-                }
-            }
-            line
+            Some(class.to_string())
         }
-        Record::Port { name, target } => format!("port {} = {}", word(name)?, pointed(target)?),
-        Record::Submodel { name, model } => format!("submodel {} of {}", word(name)?, word(model)?),
-        Record::Deletion { target } => format!("delete {}", pointed(target)?),
-        Record::Replacement { owner, target } => {
-            format!("replace {} by {}", pointed(target)?, word(owner)?)
-        }
-        Record::ReplacedBy { owner, target } => {
-            format!("{} replaced by {}", word(owner)?, pointed(target)?)
-        }
-        Record::Bytes(_) => return None,
-    })
+        Part::Target(target) => pointed(target),
+    }
 }
 
 fn word(name: &Field) -> Option<String> {
     let name = unblank(name)?;
-    Some(if name.is_empty() { "-".into() } else { name })
+    Some(if name.is_empty() {
+        NOTHING.into()
+    } else {
+        name
+    })
 }
 
 fn pointed(target: &Target) -> Option<String> {
@@ -149,55 +173,48 @@ pub fn parse(text: &str) -> Result<Vec<u8>, String> {
 }
 
 fn record(words: &[&str]) -> Option<Record> {
-    Some(match words {
-        // This goes first, since an owner may have any name.
-        [owner, "replaced", "by", target] => Record::ReplacedBy {
-            owner: name(owner)?,
-            target: parse_target(target)?,
-        },
-        ["model", model] => Record::Model { name: name(model)? },
-        ["submodel", submodel, "of", model] => Record::Submodel {
-            name: name(submodel)?,
-            model: name(model)?,
-        },
-        ["port", port, "=", target] => Record::Port {
-            name: name(port)?,
-            target: parse_target(target)?,
-        },
-        ["delete", target] => Record::Deletion {
-            target: parse_target(target)?,
-        },
-        ["replace", target, "by", owner] => Record::Replacement {
-            owner: name(owner)?,
-            target: parse_target(target)?,
-        },
-        ["bytes", bytes @ ..] => {
-            let bytes = bytes.iter().map(|byte| u8::from_str_radix(byte, 16));
-            Record::Bytes(bytes.collect::<Result<_, _>>().ok()?)
-        }
-        [class, element, links @ ..] => {
-            let class = CLASSES.iter().position(|c| c == class)?;
-            let (parent, reference) = match links {
-                [] => (BLANK, BLANK),
-                ["in", parent] => (name(parent)?, BLANK),
-                ["->", reference] => (BLANK, name(reference)?),
-                ["in", parent, "->", reference] => (name(parent)?, name(reference)?),
-                _ => return None,
-            };
-            Record::Element {
-                name: name(element)?,
-                class: class as u8 + 1,
-                parent,
-                reference,
-            }
-        }
-        _ => return None,
+    let mut forms = FORMS.iter();
+    let formed = forms.find_map(|(kind, form)| of_form(*kind, form, words));
+    formed.or_else(|| {
+        let (_, bytes) = words.split_first().filter(|(&first, _)| first == "bytes")?;
+        let bytes = bytes.iter().map(|byte| u8::from_str_radix(byte, 16));
+        Some(Record::Bytes(bytes.collect::<Result<_, _>>().ok()?))
     })
 }
 
-fn name(word: &str) -> Option<Field> {
+/// The record of a line that has this form.
+fn of_form(kind: u8, form: &[Piece], words: &[&str]) -> Option<Record> {
+    let mut record = Record::zeros(kind)?;
+    let mut parts = record.parts();
+    let mut words = words.iter().copied().peekable();
+    for piece in form {
+        match *piece {
+            Word(word) => {
+                words.next_if_eq(&word)?;
+            }
+            At(part) => parse_part(words.next()?, &mut parts[part])?,
+            Link(sign, part) => {
+                if words.next_if_eq(&sign).is_some() {
+                    parse_part(words.next()?, &mut parts[part])?;
+                }
+            }
+        }
+    }
+    words.next().is_none().then_some(record)
+}
+
+fn parse_part(word: &str, part: &mut Part) -> Option<()> {
+    match part {
+        Part::Name(name) => **name = parse_name(word)?,
+        Part::Class(class) => **class = CLASSES.iter().position(|&class| class == word)? as u8 + 1,
+        Part::Target(target) => **target = parse_target(word)?,
+    }
+    Some(())
+}
+
+fn parse_name(word: &str) -> Option<Field> {
     match word {
-        "-" => Some(BLANK),
+        NOTHING => Some(BLANK),
         _ => name_or_nothing(word).filter(|field| *field != BLANK),
     }
 }
