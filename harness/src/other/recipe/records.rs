@@ -64,16 +64,16 @@ pub fn read(recipe: &[u8]) -> Result<Vec<Record>, Refusal> {
     let mut records = Vec::new();
     let mut unread = None;
     let mut place = 0;
-    while let Some((&kind, rest)) = recipe[place..].split_first() {
+    while let Some((&byte, rest)) = recipe[place..].split_first() {
         // 2, at the record: "kind unknown, body cut short, or first record not kind 1".
-        let fields = body_length(kind)
-            .filter(|_| kind == 1 || place > 0)
-            .and_then(|length| rest.get(..length))
+        let (fields, read_body) = kind(byte)
+            .filter(|_| byte == 1 || place > 0)
+            .and_then(|(length, read)| Some((rest.get(..length)?, read)))
             .ok_or(Refusal { number: 2, place })?;
         // 3, at the record: "a field that fails to read as a name, or is blank where no blank is
         // allowed; way or class byte without meaning; a kind 4 whose own name ends with an
         // underscore". It waits, since a 2 that comes later goes before it.
-        match read_body(kind, Fields(fields)) {
+        match read_body(&mut Fields(fields)) {
             Some(body) => records.push(Record { place, body }),
             None => unread = unread.or(Some(Refusal { number: 3, place })),
         }
@@ -82,45 +82,48 @@ pub fn read(recipe: &[u8]) -> Result<Vec<Record>, Refusal> {
     unread.map_or(Ok(records), Err)
 }
 
-fn body_length(kind: u8) -> Option<usize> {
-    Some(match kind {
-        1 => NAME,
-        2 | 3 | 6 | 7 => 3 * NAME + 1,
-        4 => 2 * NAME,
-        5 => 2 * NAME + 1,
-        _ => return None,
-    })
-}
+/// The length of a body, and how it is read.
+type Kind = (usize, fn(&mut Fields) -> Option<Body>);
 
-fn read_body(kind: u8, mut fields: Fields) -> Option<Body> {
-    Some(match kind {
-        1 => Body::Model {
-            name: fields.name()?,
-        },
-        2 => Body::Element {
-            name: fields.name()?,
-            class: Class::read(fields.byte()?)?,
-            parent: fields.name_or_blank()?,
-            reference: fields.name_or_blank()?,
-        },
-        3 => Body::Port {
-            name: fields.name()?,
-            submodel: fields.name_or_blank()?,
-            target: fields.target()?,
-        },
-        4 => Body::Submodel {
-            name: fields.name().filter(|name| !ends_with_underscore(name))?,
-            model: fields.name()?,
-        },
-        _ => Body::Mark {
-            kind: match kind {
-                5 => Mark::Deletion,
-                6 => Mark::Replacement(fields.name()?),
-                _ => Mark::ReplacedBy(fields.name()?),
-            },
-            submodel: fields.name()?,
-            target: fields.target()?,
-        },
+/// 01's table of kinds.
+fn kind(byte: u8) -> Option<Kind> {
+    Some(match byte {
+        1 => (NAME, |fields| {
+            Some(Body::Model {
+                name: fields.name()?,
+            })
+        }),
+        2 => (3 * NAME + 1, |fields| {
+            Some(Body::Element {
+                name: fields.name()?,
+                class: Class::read(fields.byte()?)?,
+                parent: fields.name_or_blank()?,
+                reference: fields.name_or_blank()?,
+            })
+        }),
+        3 => (3 * NAME + 1, |fields| {
+            Some(Body::Port {
+                name: fields.name()?,
+                submodel: fields.name_or_blank()?,
+                target: fields.target()?,
+            })
+        }),
+        4 => (2 * NAME, |fields| {
+            Some(Body::Submodel {
+                name: fields.name().filter(|name| !ends_with_underscore(name))?,
+                model: fields.name()?,
+            })
+        }),
+        5 => (2 * NAME + 1, |fields| fields.mark(Mark::Deletion)),
+        6 => (3 * NAME + 1, |fields| {
+            let owner = fields.name()?;
+            fields.mark(Mark::Replacement(owner))
+        }),
+        7 => (3 * NAME + 1, |fields| {
+            let owner = fields.name()?;
+            fields.mark(Mark::ReplacedBy(owner))
+        }),
+        _ => return None,
     })
 }
 
@@ -163,5 +166,14 @@ impl Fields<'_> {
             1 => self.name().map(Target::Port),
             _ => None,
         }
+    }
+
+    /// A mark's kind and owner are known; submodel and target are left.
+    fn mark(&mut self, kind: Mark<Name>) -> Option<Body> {
+        Some(Body::Mark {
+            kind,
+            submodel: self.name()?,
+            target: self.target()?,
+        })
     }
 }
