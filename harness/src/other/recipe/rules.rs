@@ -1,6 +1,7 @@
 //! The rules that `slow` follows: 01's, and bent ones.
 //! The bent ones, the mutants, are wrong programs that the generated recipes must tell from 01.
 
+use super::slow::{Kind, Part};
 use crate::other::rules::{Row, CLASS_TABLE};
 use crate::other::{MAX_RECIPE, NAME};
 use std::ops::RangeInclusive;
@@ -32,12 +33,12 @@ pub struct Rules {
     /// May a name have digits behind its first character?
     pub(super) digits: bool,
     pub(super) padding_is_zero: bool,
-    /// May a field of this kind's record end with an underscore? The second number is the field's.
-    pub(super) may_end_with_underscore: fn(u8, usize) -> bool,
+    /// May this part of a record of this kind end with an underscore?
+    pub(super) may_end_with_underscore: fn(Kind, Part) -> bool,
     /// How many bytes of two names are compared.
     pub(super) compared: usize,
     /// Have records of these two kinds one space of names?
-    pub(super) one_space: fn(u8, u8) -> bool,
+    pub(super) one_space: fn(Kind, Kind) -> bool,
     pub(super) second_replaced_by: bool,
     pub(super) class_table: [Row; 7],
     /// May what is at the second place be a parent, owner or model at the first?
@@ -59,9 +60,9 @@ pub struct Rules {
     /// Is a record at fault that leads to a port which leads nowhere?
     pub(super) through_broken_ports: bool,
     /// Do two marks of these kinds conflict if they have one target?
-    pub(super) marks_conflict: fn(u8, u8) -> bool,
+    pub(super) marks_conflict: fn(Kind, Kind) -> bool,
     /// Does a replaced-by conflict with a record of this kind that has its owner as target?
-    pub(super) owner_conflicts: fn(u8) -> bool,
+    pub(super) owner_conflicts: fn(Kind) -> bool,
     /// Do two ports conflict whose instances are the same or not?
     pub(super) ports_conflict: fn(bool) -> bool,
     /// Do a mark and a port conflict, if the mark's depth is so much below the port's?
@@ -69,10 +70,10 @@ pub struct Rules {
     pub(super) by_written_names: bool,
     pub(super) earlier_is_reported: bool,
     /// Is a mark of this kind judged by 10?
-    pub(super) judged_by_10: fn(u8) -> bool,
+    pub(super) judged_by_10: fn(Kind) -> bool,
     pub(super) replaced_by: ReplacedBy,
     /// Do the children of an element go that is the target of a mark of this kind, or owns it?
-    pub(super) takes_children: fn(u8) -> bool,
+    pub(super) takes_children: fn(Kind) -> bool,
     pub(super) chain_steps: usize,
     pub(super) gone_targets: bool,
     pub(super) gone_for_12: bool,
@@ -83,7 +84,7 @@ pub struct Rules {
     pub(super) outer_names: bool,
     pub(super) inner_names: bool,
     /// Are names of records of this kind tried?
-    pub(super) tried: fn(u8) -> bool,
+    pub(super) tried: fn(Kind) -> bool,
     pub(super) gone_names: bool,
     pub(super) underscores: RangeInclusive<usize>,
     /// Is a prefix written, by its number from main downward, by how many there are, and by the
@@ -102,9 +103,9 @@ impl Default for Rules {
             rank: |number| number,
             digits: true,
             padding_is_zero: true,
-            may_end_with_underscore: |kind, field| (kind, field) != (4, 0),
+            may_end_with_underscore: |kind, part| (kind, part) != (Kind::Submodel, Part::Name),
             compared: NAME,
-            one_space: |a, b| a == b || [a, b] == [2, 4] || [a, b] == [4, 2],
+            one_space: |a, b| (a == Kind::Port) == (b == Kind::Port),
             second_replaced_by: false,
             class_table: CLASS_TABLE,
             parent_at: |place, parent| parent < place,
@@ -128,7 +129,7 @@ impl Default for Rules {
             mark_and_port_conflict: |below| below >= 0,
             by_written_names: false,
             earlier_is_reported: false,
-            judged_by_10: |kind| kind != 5,
+            judged_by_10: |kind| kind != Kind::Deletion,
             replaced_by: ReplacedBy::OwnerGoes,
             takes_children: |_| true,
             chain_steps: usize::MAX,
@@ -139,7 +140,7 @@ impl Default for Rules {
             order_of_tree: TreeOrder::DepthFirst,
             outer_names: true,
             inner_names: true,
-            tried: |kind| matches!(kind, 2 | 4),
+            tried: |kind| matches!(kind, Kind::Element | Kind::Submodel),
             gone_names: true,
             underscores: 2..=12,
             prefixed: |_, _, _| true,
@@ -178,17 +179,18 @@ pub const MUTANTS: &[(&str, Bend)] = &[
         r.may_end_with_underscore = |_, _| true
     }),
     ("its model's name may not, either", |r| {
-        r.may_end_with_underscore = |kind, _| kind != 4
+        r.may_end_with_underscore = |kind, _| kind != Kind::Submodel
     }),
     ("an element's name may not, either", |r| {
-        r.may_end_with_underscore = |kind, field| !matches!((kind, field), (2 | 4, 0))
+        r.may_end_with_underscore =
+            |kind, part| !matches!((kind, part), (Kind::Element | Kind::Submodel, Part::Name))
     }),
     ("names are compared in 11 bytes", |r| r.compared = 11),
     ("submodels and elements have spaces of their own", |r| {
         r.one_space = |a, b| a == b
     }),
     ("ports and elements have one space", |r| {
-        r.one_space = |a, b| a == b || a != 1 && b != 1
+        r.one_space = |_, _| true
     }),
     ("an owner may have two replaced-bys", |r| {
         r.second_replaced_by = true
@@ -237,19 +239,19 @@ pub const MUTANTS: &[(&str, Bend)] = &[
         r.unused_for_9 = true
     }),
     ("two replaced-bys may have one target", |r| {
-        r.marks_conflict = |a, b| (a, b) != (7, 7)
+        r.marks_conflict = |a, b| (a, b) != (Kind::ReplacedBy, Kind::ReplacedBy)
     }),
     ("two deletions may have one target", |r| {
-        r.marks_conflict = |a, b| (a, b) != (5, 5)
+        r.marks_conflict = |a, b| (a, b) != (Kind::Deletion, Kind::Deletion)
     }),
     ("two marks may have one target", |r| {
         r.marks_conflict = |_, _| false
     }),
     ("a replaced-by's owner may be a port's target", |r| {
-        r.owner_conflicts = |kind| kind != 3
+        r.owner_conflicts = |kind| kind != Kind::Port
     }),
     ("a replaced-by's owner may be a mark's target", |r| {
-        r.owner_conflicts = |kind| kind == 3
+        r.owner_conflicts = |kind| kind == Kind::Port
     }),
     ("two ports of one instance may have one target", |r| {
         r.ports_conflict = |_| false
@@ -280,7 +282,7 @@ pub const MUTANTS: &[(&str, Bend)] = &[
     }),
     ("10 is judged in the tree only", |r| r.unused_for_10 = false),
     ("10 is judged for replacements only", |r| {
-        r.judged_by_10 = |kind| kind == 6
+        r.judged_by_10 = |kind| kind == Kind::Replacement
     }),
     ("10 is judged before 9", |r| {
         r.rank = |number| match number {
@@ -301,7 +303,7 @@ pub const MUTANTS: &[(&str, Bend)] = &[
         r.takes_children = |_| false
     }),
     ("children of a replaced reaction stay", |r| {
-        r.takes_children = |kind| kind == 5
+        r.takes_children = |kind| kind == Kind::Deletion
     }),
     ("no chain step", |r| r.chain_steps = 0),
     ("one chain step", |r| r.chain_steps = 1),
@@ -339,13 +341,13 @@ pub const MUTANTS: &[(&str, Bend)] = &[
         r.inner_names = false
     }),
     ("the prefix is tried on elements only", |r| {
-        r.tried = |kind| kind == 2
+        r.tried = |kind| kind == Kind::Element
     }),
     ("the prefix is tried on submodels only", |r| {
-        r.tried = |kind| kind == 4
+        r.tried = |kind| kind == Kind::Submodel
     }),
     ("the prefix is tried on ports, too", |r| {
-        r.tried = |kind| matches!(kind, 2..=4)
+        r.tried = |kind| matches!(kind, Kind::Element | Kind::Port | Kind::Submodel)
     }),
     ("gone elements don't count for prefixes", |r| {
         r.gone_names = false

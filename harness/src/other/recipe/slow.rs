@@ -6,91 +6,111 @@ use crate::bandrolt::Answer;
 use crate::other::rules::{before_zero, Row};
 use crate::other::{Refusal, FIELD, NAME, RECORD};
 use std::collections::{BTreeSet, HashSet};
+use Part::*;
 
-#[derive(Clone, Copy)]
-enum Part {
+/// What a record is.
+#[derive(Clone, Copy, PartialEq)]
+pub(super) enum Kind {
+    Model,
+    Element,
+    Port,
+    Submodel,
+    Deletion,
+    Replacement,
+    ReplacedBy,
+}
+
+/// What a part of a body is.
+#[derive(Clone, Copy, PartialEq)]
+pub(super) enum Part {
     Name,
-    NameOrBlank,
     Class,
+    Parent,
+    Reference,
+    Model,
+    Owner,
+    Submodel,
     Way,
+    Target,
 }
 
 impl Part {
     fn length(self) -> usize {
         match self {
-            Part::Name | Part::NameOrBlank => NAME,
-            Part::Class | Part::Way => 1,
+            Class | Way => 1,
+            _ => NAME,
         }
     }
 }
 
-/// 01's table of kinds.
-fn body(kind: u8) -> Option<&'static [Part]> {
-    use Part::*;
-    Some(match kind {
-        1 => &[Name],
-        2 => &[Name, Class, NameOrBlank, NameOrBlank],
-        3 => &[Name, NameOrBlank, Way, Name],
-        4 => &[Name, Name],
-        5 => &[Name, Way, Name],
-        6 | 7 => &[Name, Name, Way, Name],
-        _ => return None,
-    })
-}
+/// 01's table of kinds: the kind byte, what it makes the record, its body in order, and which parts of
+/// that may be blank.
+const KINDS: [(u8, Kind, &[Part], &[Part]); 7] = [
+    (1, Kind::Model, &[Name], &[]),
+    (
+        2,
+        Kind::Element,
+        &[Name, Class, Parent, Reference],
+        &[Parent, Reference],
+    ),
+    (3, Kind::Port, &[Name, Submodel, Way, Target], &[Submodel]),
+    (4, Kind::Submodel, &[Name, Model], &[]),
+    (5, Kind::Deletion, &[Submodel, Way, Target], &[]),
+    (6, Kind::Replacement, &[Owner, Submodel, Way, Target], &[]),
+    (7, Kind::ReplacedBy, &[Owner, Submodel, Way, Target], &[]),
+];
 
 struct Record<'a> {
     place: usize,
-    kind: u8,
+    kind: Kind,
+    parts: &'static [Part],
+    may_be_blank: &'static [Part],
     body: &'a [u8],
+    /// The name that its body begins with: its own, or else an owner's or a submodel's.
+    first: &'a [u8],
     /// The index of its kind 1.
     model: usize,
 }
 
 impl<'a> Record<'a> {
     fn is_pointer(&self) -> bool {
-        matches!(self.kind, 3 | 5..=7)
+        self.kind == Kind::Port || self.is_mark()
     }
 
     fn is_mark(&self) -> bool {
-        matches!(self.kind, 5..=7)
+        matches!(
+            self.kind,
+            Kind::Deletion | Kind::Replacement | Kind::ReplacedBy
+        )
     }
 
-    /// The first field: a name, or the owner of kinds 6 and 7.
-    fn name(&self) -> &'a [u8] {
-        before_zero(&self.body[..NAME])
+    /// The parts of the body, each with its bytes.
+    fn parts(&self) -> impl Iterator<Item = (Part, &'a [u8])> {
+        let mut rest = self.body;
+        self.parts.iter().map(move |&part| {
+            let (bytes, after) = rest.split_at(part.length());
+            rest = after;
+            (part, bytes)
+        })
     }
 
-    fn model_name(&self) -> &'a [u8] {
-        before_zero(&self.body[NAME..])
+    /// The bytes of a part; none if a record of this kind hasn't got it.
+    fn part(&self, wanted: Part) -> &'a [u8] {
+        let found = self.parts().find(|(part, _)| *part == wanted);
+        found.map_or(&[], |(_, bytes)| bytes)
     }
 
-    fn class(&self) -> u8 {
-        self.body[NAME]
+    /// What a port or mark points at, as it is written.
+    fn pointed(&self) -> [&'a [u8]; 3] {
+        [Submodel, Way, Target].map(|part| self.part(part))
     }
 
-    fn parent(&self) -> &'a [u8] {
-        before_zero(&self.body[NAME + 1..][..NAME])
+    fn byte(&self, part: Part) -> u8 {
+        self.part(part)[0]
     }
 
-    fn reference(&self) -> &'a [u8] {
-        before_zero(&self.body[2 * NAME + 1..])
-    }
-
-    /// Kinds 3, 5, 6 and 7 end with submodel, way and target.
-    fn pointed(&self) -> &'a [u8] {
-        &self.body[self.body.len() - (2 * NAME + 1)..]
-    }
-
-    fn submodel(&self) -> &'a [u8] {
-        before_zero(&self.pointed()[..NAME])
-    }
-
-    fn way(&self) -> u8 {
-        self.pointed()[NAME]
-    }
-
-    fn target(&self) -> &'a [u8] {
-        before_zero(&self.pointed()[NAME + 1..])
+    fn name(&self, part: Part) -> &'a [u8] {
+        before_zero(self.part(part))
     }
 }
 
@@ -196,18 +216,16 @@ impl Rules {
     }
 
     fn reads(&self, record: &Record) -> bool {
-        let mut rest = record.body;
-        let parts = body(record.kind).unwrap_or_default();
-        parts.iter().enumerate().all(|(i, part)| {
-            let (field, after) = rest.split_at(part.length());
-            rest = after;
-            let ends_well = (self.may_end_with_underscore)(record.kind, i)
-                || !before_zero(field).ends_with(b"_");
+        record.parts().all(|(part, field)| {
+            let ends_well = || {
+                (self.may_end_with_underscore)(record.kind, part)
+                    || !before_zero(field).ends_with(b"_")
+            };
+            let is_blank = || record.may_be_blank.contains(&part) && field.iter().all(|&b| b == 0);
             match part {
-                Part::Name => self.is_name(field) && ends_well,
-                Part::NameOrBlank => self.is_name(field) || field.iter().all(|&b| b == 0),
-                Part::Class => (1..=7).contains(&field[0]),
-                Part::Way => field[0] <= 1,
+                Class => (1..=7).contains(&field[0]),
+                Way => field[0] <= 1,
+                _ => is_blank() || self.is_name(field) && ends_well(),
             }
         })
     }
@@ -230,29 +248,34 @@ impl<'a> Reading<'a> {
         let mut records: Vec<Record> = Vec::new();
         let mut place = 0;
         while place < recipe.len() {
-            let kind = recipe[place];
             let refusal = Refusal { number: 2, place };
-            let parts = body(kind).ok_or(refusal)?;
+            let known = KINDS.iter().find(|known| known.0 == recipe[place]);
+            let &(_, kind, parts, may_be_blank) = known.ok_or(refusal)?;
             let length: usize = parts.iter().map(|part| part.length()).sum();
-            let is_first = place == 0 && kind != 1 && !rules.any_first_record;
+            let is_first = place == 0 && kind != Kind::Model && !rules.any_first_record;
             if is_first || recipe.len() - place <= length {
                 return Err(refusal);
             }
             let model = match kind {
-                1 => records.len(),
+                Kind::Model => records.len(),
                 _ => records.last().map_or(0, |before| before.model),
             };
+            let body = &recipe[place + 1..][..length];
             records.push(Record {
                 place,
                 kind,
-                body: &recipe[place + 1..][..length],
+                parts,
+                may_be_blank,
+                body,
+                first: before_zero(&body[..NAME]),
                 model,
             });
             place += 1 + length;
         }
         let models = records.iter().map(|record| {
-            let is_model = |r: &Record| r.kind == 1 && rules.same(r.name(), record.model_name());
-            let mut models = records.iter().filter(|_| record.kind == 4);
+            let name = record.name(Model);
+            let is_model = |r: &Record| r.kind == Kind::Model && rules.same(r.first, name);
+            let mut models = records.iter().filter(|_| record.kind == Kind::Submodel);
             models.position(is_model)
         });
         let models = models.collect();
@@ -298,7 +321,7 @@ impl<'a> Reading<'a> {
             3 => places(&|i| !self.rules.reads(&self.records[i])),
             4 => places(&|i| (0..i).any(|earlier| self.repeats(earlier, i))),
             5 => places(&|i| !self.links(i)),
-            6 => places(&|i| self.records[i].kind == 1 && self.is_cyclic(i)),
+            6 => places(&|i| self.records[i].kind == Kind::Model && self.is_cyclic(i)),
             7 => match self.grow() {
                 true => Vec::new(),
                 false => vec![0],
@@ -316,7 +339,7 @@ impl<'a> Reading<'a> {
             10 => places(&|i| self.differs(i)),
             11 => {
                 let is_gone = |p: &&Pointer| {
-                    self.records[p.record].kind == 7
+                    self.records[p.record].kind == Kind::ReplacedBy
                         && self.gone.contains(&p.target)
                         && !self.rules.gone_targets
                 };
@@ -328,15 +351,28 @@ impl<'a> Reading<'a> {
     }
 
     /// The record of this kind that has this name in the definition.
-    fn find(&self, model: usize, kind: u8, name: &[u8]) -> Option<usize> {
-        let is_wanted = |r: &Record| r.kind == kind && self.rules.same(r.name(), name);
+    fn find(&self, model: usize, kind: Kind, name: &[u8]) -> Option<usize> {
+        let is_wanted = |r: &Record| r.kind == kind && self.rules.same(r.first, name);
         let held = self.records[model..].iter();
         let mut held = held.take_while(|r| r.model == model);
         held.position(is_wanted).map(|i| model + i)
     }
 
+    /// The element that a part of a record names, in its definition; a blank names none.
+    fn named(&self, i: usize, part: Part) -> Option<usize> {
+        let record = &self.records[i];
+        match record.name(part) {
+            [] => None,
+            name => self.find(record.model, Kind::Element, name),
+        }
+    }
+
+    fn class(&self, element: usize) -> u8 {
+        self.records[element].byte(Class)
+    }
+
     fn row(&self, element: usize) -> Option<&Row> {
-        let class = usize::from(self.records[element].class());
+        let class = usize::from(self.class(element));
         self.rules.class_table.get(class.checked_sub(1)?)
     }
 
@@ -344,13 +380,14 @@ impl<'a> Reading<'a> {
 
     fn repeats(&self, earlier: usize, later: usize) -> bool {
         let (a, b) = (&self.records[earlier], &self.records[later]);
+        let is_member = |kind| matches!(kind, Kind::Element | Kind::Port | Kind::Submodel);
         let is_space = match (a.kind, b.kind) {
-            (1, 1) => true,
-            (7, 7) => a.model == b.model && !self.rules.second_replaced_by,
-            (2..=4, 2..=4) => a.model == b.model && (self.rules.one_space)(a.kind, b.kind),
-            _ => false,
+            (Kind::Model, Kind::Model) => true,
+            _ if a.model != b.model => false,
+            (Kind::ReplacedBy, Kind::ReplacedBy) => !self.rules.second_replaced_by,
+            (a, b) => is_member(a) && is_member(b) && (self.rules.one_space)(a, b),
         };
-        is_space && self.rules.same(a.name(), b.name())
+        is_space && self.rules.same(a.first, b.first)
     }
 
     // 5.
@@ -358,27 +395,26 @@ impl<'a> Reading<'a> {
     fn links(&self, i: usize) -> bool {
         let record = &self.records[i];
         let model = record.model;
-        let is_element = |name| self.find(model, 2, name).is_some();
-        let is_submodel = || self.find(model, 4, record.submodel()).is_some();
+        let submodel = record.name(Submodel);
+        let is_submodel = || self.find(model, Kind::Submodel, submodel).is_some();
         match record.kind {
-            2 => self.has_parent(i),
-            3 if record.submodel().is_empty() => match record.way() {
-                0 => is_element(record.target()),
+            Kind::Model => true,
+            Kind::Element => self.has_parent(i),
+            Kind::Port if submodel.is_empty() => match record.byte(Way) {
+                0 => self.named(i, Target).is_some(),
                 _ => {
-                    let port = self.find(model, 3, record.target());
+                    let port = self.find(model, Kind::Port, record.name(Target));
                     self.rules.port_to_own_port && port.is_some()
                 }
             },
-            3 | 5 => is_submodel(),
-            4 => self.models[i]
+            Kind::Port | Kind::Deletion => is_submodel(),
+            Kind::Submodel => self.models[i]
                 .is_some_and(|m| (self.rules.model_at)(record.place, self.records[m].place)),
-            6 | 7 => {
-                let owner = self.find(model, 2, record.name());
+            Kind::Replacement | Kind::ReplacedBy => {
                 let is_placed =
                     |owner: usize| (self.rules.owner_at)(record.place, self.records[owner].place);
-                owner.is_some_and(is_placed) && is_submodel()
+                self.named(i, Owner).is_some_and(is_placed) && is_submodel()
             }
-            _ => true,
         }
     }
 
@@ -387,13 +423,12 @@ impl<'a> Reading<'a> {
         let Some(row) = self.row(i) else {
             return false;
         };
-        match record.parent() {
-            [] => row.parent.blank,
-            name => self.find(record.model, 2, name).is_some_and(|parent| {
-                let parent = &self.records[parent];
-                (self.rules.parent_at)(record.place, parent.place)
-                    && row.parent.classes.contains(&parent.class())
-            }),
+        match self.named(i, Parent) {
+            None => row.parent.blank && record.name(Parent).is_empty(),
+            Some(parent) => {
+                (self.rules.parent_at)(record.place, self.records[parent].place)
+                    && row.parent.classes.contains(&self.class(parent))
+            }
         }
     }
 
@@ -401,7 +436,7 @@ impl<'a> Reading<'a> {
 
     fn submodels(&self, model: usize) -> impl Iterator<Item = usize> + '_ {
         let held = (model..self.records.len()).take_while(move |&i| self.records[i].model == model);
-        held.filter(|&i| self.records[i].kind == 4)
+        held.filter(|&i| self.records[i].kind == Kind::Submodel)
     }
 
     /// "A definition reaches the definition of each model named in its submodel records, and every
@@ -440,7 +475,7 @@ impl<'a> Reading<'a> {
             let held = self.held(instance);
             for i in held.filter(|&i| self.records[i].is_pointer()) {
                 if let Some(target) = self.in_tree(instance, i) {
-                    let owner = self.owner(instance, i);
+                    let owner = self.named(i, Owner).map(|owner| (instance, owner));
                     self.pointers.push(Pointer {
                         instance,
                         record: i,
@@ -491,16 +526,18 @@ impl<'a> Reading<'a> {
 
     fn list_elements(&mut self, instance: usize) {
         let held = self.held(instance);
-        let turns: &[&[u8]] = match self.rules.order_of_tree {
-            TreeOrder::DepthFirst | TreeOrder::BreadthFirst => &[&[2], &[4]],
-            TreeOrder::SubmodelsFirst => &[&[4], &[2]],
-            TreeOrder::AsRecorded => &[&[2, 4]],
+        let turns: &[&[Kind]] = match self.rules.order_of_tree {
+            TreeOrder::DepthFirst | TreeOrder::BreadthFirst => {
+                &[&[Kind::Element], &[Kind::Submodel]]
+            }
+            TreeOrder::SubmodelsFirst => &[&[Kind::Submodel], &[Kind::Element]],
+            TreeOrder::AsRecorded => &[&[Kind::Element, Kind::Submodel]],
         };
         for kinds in turns {
             for i in held.clone() {
                 match self.records[i].kind {
                     kind if !kinds.contains(&kind) => {}
-                    2 => self.elements.push((instance, i)),
+                    Kind::Element => self.elements.push((instance, i)),
                     _ => {
                         if let Some(below) = self.below((instance, i)) {
                             self.list_elements(below);
@@ -525,17 +562,18 @@ impl<'a> Reading<'a> {
         if !record.is_pointer() || most_steps == 0 {
             return None;
         }
-        let (mut path, model) = match record.submodel() {
+        let (mut path, model) = match record.name(Submodel) {
             [] => (Vec::new(), record.model),
             name => {
-                let submodel = self.find(record.model, 4, name)?;
+                let submodel = self.find(record.model, Kind::Submodel, name)?;
                 (vec![submodel], self.models[submodel]?)
             }
         };
-        match record.way() {
-            0 => Some((path, self.find(model, 2, record.target())?)),
+        let target = record.name(Target);
+        match record.byte(Way) {
+            0 => Some((path, self.find(model, Kind::Element, target)?)),
             _ => {
-                let port = self.find(model, 3, record.target())?;
+                let port = self.find(model, Kind::Port, target)?;
                 let (further, element) = self.path(port, most_steps - 1)?;
                 path.extend(further);
                 Some((path, element))
@@ -558,12 +596,13 @@ impl<'a> Reading<'a> {
         let record = &self.records[i];
         let is_judged = self.rules.unused_for_8 || self.is_used(record.model);
         let leads_to_port = || {
-            let submodel = self.find(record.model, 4, record.submodel())?;
-            self.find(self.models[submodel]?, 3, record.target())
+            let submodel = self.find(record.model, Kind::Submodel, record.name(Submodel))?;
+            self.find(self.models[submodel]?, Kind::Port, record.name(Target))
         };
         // A wrong reading: a record that leads to a port is not at fault.
-        let is_excused =
-            || !self.rules.through_broken_ports && record.way() == 1 && leads_to_port().is_some();
+        let is_excused = || {
+            !self.rules.through_broken_ports && record.byte(Way) == 1 && leads_to_port().is_some()
+        };
         record.is_pointer() && is_judged && self.paths[i].is_none() && !is_excused()
     }
 
@@ -596,7 +635,7 @@ impl<'a> Reading<'a> {
         };
         let below = self.levels_below(b.instance, a.instance);
         let is_owner = |by: &Pointer, of: &Pointer| {
-            self.records[by.record].kind == 7
+            self.records[by.record].kind == Kind::ReplacedBy
                 && by.owner == Some(of.target)
                 && (self.rules.owner_conflicts)(self.records[of.record].kind)
         };
@@ -609,8 +648,8 @@ impl<'a> Reading<'a> {
             && second.is_mark()
             && one_target
             && (self.rules.marks_conflict)(first.kind, second.kind);
-        let ports = first.kind == 3
-            && second.kind == 3
+        let ports = first.kind == Kind::Port
+            && second.kind == Kind::Port
             && one_target
             && (self.rules.ports_conflict)(a.instance == b.instance);
         let mark_and_port = match (first.is_mark(), second.is_mark()) {
@@ -628,7 +667,7 @@ impl<'a> Reading<'a> {
             Some(levels) if levels > 0 => Conflict::MarksUpperFirst,
             Some(_) => Conflict::MarksLowerFirst,
         });
-        let ports = ports.then(|| match (first.way(), second.way()) {
+        let ports = ports.then(|| match (first.byte(Way), second.byte(Way)) {
             (0, 1) => Conflict::PortsByNameFirst,
             (1, 0) => Conflict::PortsByPortFirst,
             _ => Conflict::PortsOneWay,
@@ -660,13 +699,6 @@ impl<'a> Reading<'a> {
         conflicts
     }
 
-    /// The owner of a mark of kind 6 or 7.
-    fn owner(&self, instance: usize, mark: usize) -> Option<Spot> {
-        let record = &self.records[mark];
-        let element = self.find(record.model, 2, record.name())?;
-        matches!(record.kind, 6 | 7).then_some((instance, element))
-    }
-
     // 10.
 
     fn differs(&self, i: usize) -> bool {
@@ -674,10 +706,9 @@ impl<'a> Reading<'a> {
         let is_judged = record.is_mark()
             && (self.rules.judged_by_10)(record.kind)
             && (self.rules.unused_for_10 || self.is_used(record.model));
-        let owner = || self.find(record.model, 2, record.name());
         let target = || self.paths[i].as_ref().map(|&(_, element)| element);
-        let class = |element: usize| self.records[element].class();
-        is_judged && owner().map(class) != target().map(class)
+        let class = |element: usize| self.class(element);
+        is_judged && self.named(i, Owner).map(class) != target().map(class)
     }
 
     // Gone, and the chain.
@@ -688,20 +719,16 @@ impl<'a> Reading<'a> {
         self.pointers
             .iter()
             .find(|p| match self.records[p.record].kind {
-                5 | 6 => p.target == spot,
-                7 if bent == ReplacedBy::OwnerGoes => p.owner == Some(spot),
-                7 if bent == ReplacedBy::TargetGoes => p.target == spot,
+                Kind::Deletion | Kind::Replacement => p.target == spot,
+                Kind::ReplacedBy if bent == ReplacedBy::OwnerGoes => p.owner == Some(spot),
+                Kind::ReplacedBy if bent == ReplacedBy::TargetGoes => p.target == spot,
                 _ => false,
             })
     }
 
     fn is_gone(&self, spot: Spot) -> bool {
-        let record = &self.records[spot.1];
-        let parent = match record.parent() {
-            [] => None,
-            name => self.find(record.model, 2, name),
-        };
         let takes = |mark: &Pointer| (self.rules.takes_children)(self.records[mark.record].kind);
+        let parent = self.named(spot.1, Parent);
         let parent = parent.and_then(|parent| self.gone_by((spot.0, parent)));
         self.gone_by(spot).is_some() || parent.is_some_and(takes)
     }
@@ -711,7 +738,7 @@ impl<'a> Reading<'a> {
         for _ in 0..self.rules.chain_steps.min(self.elements.len()) {
             let next = self.gone_by(spot).and_then(|mark| {
                 match (self.records[mark.record].kind, self.rules.replaced_by) {
-                    (7, ReplacedBy::OwnerGoes) => Some(mark.target),
+                    (Kind::ReplacedBy, ReplacedBy::OwnerGoes) => Some(mark.target),
                     _ => mark.owner,
                 }
             });
@@ -735,7 +762,7 @@ impl<'a> Reading<'a> {
             let all = 0..self.records.len();
             let is_unused = |&i: &usize| {
                 let record = &self.records[i];
-                record.kind == 2 && !self.is_used(record.model) && !self.refers(i)
+                record.kind == Kind::Element && !self.is_used(record.model) && !self.refers(i)
             };
             places.extend(all.filter(is_unused).map(place));
         }
@@ -748,11 +775,9 @@ impl<'a> Reading<'a> {
         let Some(row) = self.row(element) else {
             return false;
         };
-        match record.reference() {
-            [] => row.reference.blank,
-            name => self
-                .find(record.model, 2, name)
-                .is_some_and(|e| row.reference.classes.contains(&self.records[e].class())),
+        match self.named(element, Reference) {
+            None => row.reference.blank && record.name(Reference).is_empty(),
+            Some(end) => row.reference.classes.contains(&self.class(end)),
         }
     }
 
@@ -761,13 +786,13 @@ impl<'a> Reading<'a> {
     fn reference(&self, spot: Spot) -> Option<Option<Spot>> {
         let record = &self.records[spot.1];
         let row = self.row(spot.1)?;
-        if record.reference().is_empty() {
+        if record.name(Reference).is_empty() {
             return row.reference.blank.then_some(None);
         }
-        let named = self.find(record.model, 2, record.reference())?;
+        let named = self.named(spot.1, Reference)?;
         let end = self.chain_end((spot.0, named));
         let ends_well = (!self.gone.contains(&end) || self.rules.gone_ends)
-            && row.reference.classes.contains(&self.records[end.1].class());
+            && row.reference.classes.contains(&self.class(end.1));
         ends_well.then_some(Some(end))
     }
 
@@ -788,9 +813,9 @@ impl<'a> Reading<'a> {
         let names: Vec<&[u8]> = outer
             .chain(inner)
             .filter(counts)
-            .map(|(_, i)| self.records[i].name())
+            .map(|(_, i)| self.records[i].first)
             .collect();
-        let with = |count: usize| [self.records[record].name(), &vec![b'_'; count]].concat();
+        let with = |count: usize| [self.records[record].first, &vec![b'_'; count]].concat();
         let is_free = |prefix: &Vec<u8>| !names.iter().any(|name| name.starts_with(prefix));
         let mut tries = self.rules.underscores.clone().map(with);
         tries
@@ -809,7 +834,7 @@ impl<'a> Reading<'a> {
         let is_written = |&number: &usize| (self.rules.prefixed)(number, way.len(), way[number].1);
         let numbers = (0..way.len()).filter(is_written);
         let mut name: Vec<u8> = numbers.flat_map(|i| prefixes[way[i].0].clone()).collect();
-        name.extend(self.records[spot.1].name());
+        name.extend(self.records[spot.1].first);
         name
     }
 
@@ -832,12 +857,8 @@ impl<'a> Reading<'a> {
         };
         for (record, &spot) in table.chunks_exact_mut(RECORD).zip(written) {
             record.fill(0);
-            record[0] = self.records[spot.1].class();
-            let parent = match self.records[spot.1].parent() {
-                [] => None,
-                name => self.find(self.records[spot.1].model, 2, name),
-            };
-            let parent = parent.map(|parent| (spot.0, parent));
+            record[0] = self.class(spot.1);
+            let parent = self.named(spot.1, Parent).map(|parent| (spot.0, parent));
             let named = [Some(spot), parent, self.reference(spot).flatten()];
             for (field, named) in record[1..].chunks_exact_mut(FIELD).zip(named) {
                 let name = named.map_or(Vec::new(), |spot| self.flat_name(spot, &prefixes));
