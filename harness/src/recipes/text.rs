@@ -51,7 +51,7 @@ enum Piece {
 }
 
 /// Each kind's line; no line has two forms.
-const FORMS: [(u8, &[Piece]); 7] = [
+const FORMS: &[(u8, &[Piece])] = &[
     (1, &[Word("model"), At(0)]),
     (2, &[At(1), At(0), Link("in", 2), Link("->", 3)]),
     (3, &[Word("port"), At(0), Word("="), At(1)]),

@@ -45,7 +45,7 @@ impl Part {
 
 /// 01's table of kinds: the kind byte, what it makes the record, its body in order, and which parts of
 /// that may be blank.
-const KINDS: [(u8, Kind, &[Part], &[Part]); 7] = [
+const KINDS: &[(u8, Kind, &[Part], &[Part])] = &[
     (1, Kind::Model, &[Name], &[]),
     (
         2,
