@@ -1,12 +1,11 @@
--- Bytes that stand in a text: one after the other, and copied one by one.
+-- Bytes that stand in a text: one after the other, and copied there.
 -- Assumes nothing.
 use mathlib.Core.Path.{_≡_, sym, ap, _∙_}
-use Prim.Native.Nat.{ℕ, _+_, _≤_, _<_}
+use Prim.Native.Nat.{ℕ, _+_, _≤_}
 use native.Mathlib.Omega.{arith}
 use mathlib.Core.List.{List, [], _++_, append-assoc, append-nil}
-use native.Mathlib.Numerals.{add-one}
-use lib.ListN.{length, getD, set, take, drop, length-append, length-drop, take-append-drop}
-use lib.Seq.{length-take-le, take-at, take-all, drop-append-add, drop-drop, paste, paste-zero, paste-suc, length-paste}
+use lib.ListN.{length, take, drop, length-append, length-drop, take-append-drop}
+use lib.Seq.{length-take-le, take-at, take-all, drop-append-add, drop-drop, sets, sets-eq}
 use Rattle.bandrolt.specs.Text.{Stands}
 
 -- nothing stands anywhere
@@ -35,23 +34,8 @@ module _ {xs text : List ℕ} {at : ℕ} {text′ : List ℕ} {end : ℕ} (a : S
         bytes = b .bytes ∙ rw (front, back, append-assoc (take at text) xs ys);
       }
 
--- the first i bytes are copied, and the others have room
-pub record Copied (xs text : List ℕ) (at : ℕ) (text′ : List ℕ) (i : ℕ) : Type 0 where
-  pub room : at + length xs ≤ length text
-  pub below : i ≤ length xs
-  pub copy : text′ ≡ paste text at xs i
-
-module _ (xs text : List ℕ) (at : ℕ) where
-  pub copied-none : at + length xs ≤ length text → Copied xs text at text 0
-  copied-none h = record { room = h; below = omega arith; copy = paste-zero text at xs }
-
-  module _ {text′ : List ℕ} {i : ℕ} (k : Copied xs text at text′ i) where
-    pub copied-length : length text′ ≡ length text
-    copied-length = rw (k .copy) (length-paste text at xs i (omega arith) (k .below))
-
-    pub copied-one : i < length xs → Copied xs text at (set text′ (at + i) (getD xs i 0)) (i + 1)
-    copied-one l =
-        record { room = k .room; below = omega arith; copy = rw (k .copy, add-one i) (paste-suc text at xs i 0 (omega arith) l) }
-
-    pub copied-all : length xs ≤ i → Stands xs text at text′ (at + i)
-    copied-all m = record { ends = omega arith; within = omega arith; bytes = k .copy ∙ rw (take-all i xs m) }
+-- all of the bytes are copied
+pub copied-stands : (xs text : List ℕ) (at : ℕ) {text′ : List ℕ} → at + length xs ≤ length text → text′ ≡ sets text at (take (length xs) (drop 0 xs)) → Stands xs text at text′ (at + length xs)
+copied-stands xs text at h e =
+    let all : take (length xs) (drop 0 xs) ≡ xs = take-all (length xs) xs (omega arith) in
+    record { ends = omega arith; within = h; bytes = e ∙ (ap (sets text at) all ∙ sets-eq xs text at h) }

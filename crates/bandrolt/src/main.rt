@@ -19,12 +19,9 @@ fn put(bytes: &[u8], text: &mut [u8], at: usize) -> usize
     requires { ⌜ at + length (now bytes) ≤ length (now text) ⌝ }
     ensures { λ r. ⌜ Stands (now (bytes .entry)) (now (text .entry)) at (now (text .exit)) r ⌝ }
 {
-    let mut i = 0;
-    while i < bytes.len() {
-        text[at + i] = bytes[i];
-        i += 1;
-    }
-    at + i
+    let n = bytes.len();
+    names::put_bytes(bytes, 0, n, text, at);
+    at + n
 }
 
 // A number in decimal, which has at most 20 digits.

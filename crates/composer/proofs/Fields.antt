@@ -21,7 +21,7 @@ use Rattle.tree.specs.Numbers.{number}
 use Rattle.tree.specs.Tree.{Node, instances, node, parentOf, referenceOf, treeElements}
 use Rattle.tree.proofs.Nodes.{node-eq, parent-in, reference-in}
 use Rattle.tree.proofs.Resolving.{not-zero}
-use Rattle.tree.proofs.Walks.{sets-append}
+use Rattle.names.proofs.Stores.{sets-append}
 use Rattle.marks.specs.Marks.{chainEnd}
 use Rattle.marks.specs.Steps.{EndsAt, Numbers}
 use Rattle.marks.proofs.Chain.{chain-in}

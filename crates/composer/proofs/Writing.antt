@@ -13,7 +13,7 @@ use Rattle.names.specs.Lists.{joined, keep}
 use Rattle.flat_table.specs.Table.{flatLength, flatWidth}
 use Rattle.recipe.specs.Records.{Recipe}
 use Rattle.tree.specs.Tree.{Node, node, treeElements}
-use Rattle.tree.proofs.Walks.{sets-append}
+use Rattle.names.proofs.Stores.{sets-append}
 use Rattle.marks.specs.Marks.{isGone, survivors}
 use Rattle.composer.specs.Flat.{flat, flatRecord}
 use Rattle.composer.specs.Writing.{Referring, Writing, elementAt}

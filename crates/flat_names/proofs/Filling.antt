@@ -19,7 +19,8 @@ use Rattle.tree.specs.Numbers.{Above}
 use Rattle.tree.proofs.Instances.{instance-path}
 use Rattle.flat_names.specs.Prefixes.{prefix, withUnderscores, namesAround, fewest}
 use Rattle.flat_names.specs.Rows.{Naming, RowsTo, prefixesOf}
-use Rattle.flat_names.proofs.Puts.{parts, Copied, copied-one, instances-few, prefixes-short, row-room}
+use Rattle.names.proofs.Stores.{Copied, copied-one}
+use Rattle.flat_names.proofs.Puts.{parts, instances-few, prefixes-short, row-room}
 use Rattle.flat_names.proofs.Looking.{name-bytes}
 
 -- ---- what a run of stores leaves as it was, and what it leaves

@@ -4,16 +4,16 @@ use mathlib.Core.Path.{_≡_, refl, sym, ap, _∙_}
 use Prim.Native.Nat.{ℕ, _+_, _*_, _-_, _≤_, _<_}
 use native.Mathlib.Omega.{arith}
 use native.Mathlib.Nat.{mul-le-mul-left, mul-le-mul-right}
-use native.Mathlib.Numerals.{add-one}
-use mathlib.Core.List.{List, [], _∷_, _++_, append-assoc}
+use mathlib.Core.List.{List, [], _++_, append-assoc}
 use lib.ListN.{length, getD, set, take, drop, replicate, length-append, length-set, length-drop, length-replicate, replicate-append-replicate}
-use lib.Seq.{sets, take-suc, getD-drop, length-take-le}
+use lib.Seq.{sets, length-take-le}
 use lib.Dec.{ltb}
 use borrow.Author.Tests.{ltb-false}
 use Rattle.names.specs.Lists.{In, padded}
 use Rattle.names.specs.Names.{fieldAt}
 use Rattle.names.proofs.Names.{name-padding}
 use Rattle.names.proofs.Tests.{or-none-left}
+use Rattle.names.proofs.Stores.{sets-append, put-one}
 use Rattle.names.proofs.Lists.{getD-in}
 use Rattle.flat_table.specs.Table.{flatWidth}
 use Rattle.recipe.specs.Records.{Recipe, field, firstField, name}
@@ -25,14 +25,9 @@ use Rattle.tree.specs.Tree.{instances, node, treeElements, definitionAt, Submod
 use Rattle.tree.specs.Faults.{fault₇, isTooLarge, mostInstances}
 use Rattle.tree.proofs.Nodes.{in-tree}
 use Rattle.tree.proofs.Instances.{instance-path, at-most-four}
-use Rattle.tree.proofs.Walks.{sets-append}
 use Rattle.flat_names.specs.Prefixes.{flatName}
 use Rattle.flat_names.specs.Rows.{Naming, Prefixed, prefixesOf, rowWidth}
 use Rattle.flat_names.proofs.Lengths.{prefixes-bytes}
-
--- ---- one more byte
-put-one : (out₀ out : List ℕ) (at : ℕ) (vs : List ℕ) (k x : ℕ) → length vs ≡ k → out ≡ sets out₀ at vs → set out (at + k) x ≡ sets out₀ at (vs ++ x ∷ [])
-put-one out₀ out at vs k x l e = rw (e, ← l) (sym (sets-append vs out₀ at (x ∷ [])))
 
 -- k times x is written
 pub record Repeated (x : ℕ) (out₀ : List ℕ) (at : ℕ) (out : List ℕ) (k : ℕ) : Type 0 where
@@ -47,27 +42,6 @@ repeated-one {x} {out₀} {at} {out} {k} z = record {
   long = length-set out (at + k) x ∙ z .long;
   is = put-one out₀ out at (replicate k x) k x (length-replicate k x) (z .is) ∙ ap (sets out₀ at) (replicate-append-replicate k 1 x);
 }
-
--- k bytes are copied
-pub record Copied (s : List ℕ) (a : ℕ) (out₀ : List ℕ) (at : ℕ) (out : List ℕ) (k : ℕ) : Type 0 where
-  pub long : length out ≡ length out₀
-  pub is : out ≡ sets out₀ at (take k (drop a s))
-
-pub copied-start : (s : List ℕ) (a : ℕ) (out : List ℕ) (at : ℕ) → Copied s a out at out 0
-copied-start s a out at = record { long = refl; is = refl }
-
-pub copied-one : {s : List ℕ} {a : ℕ} {out₀ : List ℕ} {at : ℕ} {out : List ℕ} {k : ℕ} → Copied s a out₀ at out k → a + k < length s
-    → Copied s a out₀ at (set out (at + k) (getD s (a + k) 0)) (k + 1)
-copied-one {s} {a} {out₀} {at} {out} {k} z h =
-    let f = drop a s in
-    let l : k < length f = omega (arith, length-drop a s) in
-    let more : take k f ++ (getD s (a + k) 0 ∷ []) ≡ take (k + 1) f = sym (rw (add-one, take-suc f k 0 l, getD-drop a s k 0)) in
-    record {
-      long = length-set out (at + k) (getD s (a + k) 0) ∙ z .long;
-      is =
-          put-one out₀ out at (take k f) k (getD s (a + k) 0) (length-take-le k f (omega arith)) (z .is)
-          ∙ ap (sets out₀ at) more;
-    }
 
 -- ---- three parts
 pub parts : (out o₁ o₂ o₃ : List ℕ) (at : ℕ) (a b c : List ℕ) (l w : ℕ) → length a ≡ l → length b ≡ w

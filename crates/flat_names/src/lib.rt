@@ -1,5 +1,5 @@
 // Flat names: the prefix of each instance, and the flat name of an element, written into a table.
-// For the floors above: put_zeros, put_bytes, put_name, fill_prefixes. They take the name width w, 10 to 64, and the tables of the floors below.
+// For the floors above: put_zeros, put_name, fill_prefixes. They take the name width w, 10 to 64, and the tables of the floors below.
 ghost use mathlib.Core.Path.{_≡_};
 ghost use Prim.Native.Nat.{_+_, _*_, _≤_, _<_, max};
 ghost use mathlib.Core.List.{[], _++_};
@@ -35,18 +35,6 @@ pub fn put_zeros(out: &mut [u8], at: usize, n: usize)
     put_same(out, at, n, 0);
 }
 
-// Copies the n bytes from a on to the offset `at`.
-pub fn put_bytes(from: &[u8], a: usize, n: usize, out: &mut [u8], at: usize)
-    requires { ⌜ (a + n ≤ length (now from)) × (at + n ≤ length (now out)) ⌝ }
-    ensures { λ _. ⌜ now (out .exit) ≡ sets (now (out .entry)) at (take n (drop a (now (from .entry)))) ⌝ }
-{
-    let mut k = 0;
-    while k < n {
-        out[at + k] = from[a + k];
-        k += 1;
-    }
-}
-
 // Writes the field of the flat name of the element at q in instance i: its row, its name with the zeros behind it, and zeros.
 pub fn put_name(
     s: &[u8],
@@ -62,8 +50,8 @@ pub fn put_name(
     ensures { λ _. ⌜ now (out .exit) ≡ sets (now (out .entry)) at (padded (flatWidth w) (flatName (record { width = w; bytes = now (s .entry) }) (node (getD (instances (record { width = w; bytes = now (s .entry) })) i []) q))) ⌝ }
 {
     let l = recipe::wide(len[i]);
-    put_bytes(pre, i * (4 * w + 8), l, out, at);
-    put_bytes(s, q + 1, w, out, at + l);
+    names::put_bytes(pre, i * (4 * w + 8), l, out, at);
+    names::put_bytes(s, q + 1, w, out, at + l);
     put_zeros(out, at + (l + w), 4 * w + 8 - l);
 }
 
@@ -187,7 +175,7 @@ fn put_row(
     let n = name_length(s, w, m);
     let u = fewest_underscores(s, w, hold, model, m);
     copy_row(pre, from, l, to);
-    put_bytes(s, m + 1, n, pre, to + l);
+    names::put_bytes(s, m + 1, n, pre, to + l);
     put_same(pre, to + (l + n), u, 95);
     l + (n + u)
 }

@@ -7,11 +7,12 @@ use Prim.Native.Nat.{ℕ, suc, _+_, _*_, _≤_, _<_}
 use native.Mathlib.Omega.{arith}
 use native.Mathlib.Nat.{suc-mul, mul-le-mul-right, mul-le-mul-left}
 use lib.ListN.{length, getD, take, drop, set, length-set, length-drop}
-use lib.Seq.{getD-set-same, getD-set-other, getD-take, getD-drop, ext-getD, length-take-le}
+use lib.Seq.{ext-getD, getD-drop, getD-set-other, getD-set-same, getD-take, length-sets, length-take-le, sets}
 use borrow.Author.Tests.{eq-eqb, ne-eqb}
 use Rattle.names.specs.Lists.{In}
 use Rattle.names.specs.Names.{fieldAt}
 use Rattle.names.proofs.Tests.{three, not-both}
+use Rattle.names.proofs.Stores.{stored-before, stored-at}
 use Rattle.names.proofs.Lists.{in-keep, keep-in, getD-in, in-getD}
 use Rattle.name_index.specs.Index.{nameOf}
 use Rattle.recipe.specs.Records.{Recipe, kind, isModel, recordLength, next, places, field, firstField}
@@ -20,7 +21,6 @@ use Rattle.recipe.proofs.Reading.{readable-fits}
 use Rattle.recipe.proofs.Going.{Going, Here, going-start, going-more, here, none-past}
 use Rattle.recipe.proofs.Definitions.{main-in, holder-is}
 use Rattle.links.specs.Entries.{tagOf, tagAt, keyOf, keyAt, Clear, Listed, Copied}
-use Rattle.links.specs.Steps.{Put}
 use Rattle.links.proofs.Places.{drop-next, drop-over, rest, rest-more, rest-start, next-least, place-room, numbered-less, Filling, filling-one}
 
 -- ---- the list of the places
@@ -164,25 +164,6 @@ module _ {s : Recipe} {hold₀ hold : List ℕ} {d i : ℕ} (g : Holding s hold�
         before = λ j u v. g .before j (omega arith) v;
       }
 
--- ---- a field that is copied
-pub put-start : (s : List ℕ) (from : ℕ) (out : List ℕ) (to : ℕ) → Put s from out to out 0
-put-start s from out to = record { long = refl; done = λ k h. absurd (omega arith); kept = λ k h. refl }
-
-pub put-one : {s : List ℕ} {from : ℕ} {out₀ : List ℕ} {to : ℕ} {out : List ℕ} {n : ℕ} → Put s from out₀ to out n → to + n < length out
-    → Put s from out₀ to (set out (to + n) (getD s (from + n) 0)) (n + 1)
-put-one {s} {from} {out₀} {to} {out} {n} r h =
-    let x = getD s (from + n) 0 in
-    record {
-      long = length-set out (to + n) x ∙ r .long;
-      done = λ k l.
-          three k n
-          (λ u. getD-set-other out (to + n) (to + k) x 0 (λ q. omega arith) ∙ r .done k u)
-          (λ u. ap (λ (j : ℕ). getD (set out (to + n) x) (to + j) 0) u ∙ (getD-set-same out (to + n) x 0 h ∙ ap (λ (j : ℕ). getD s (from + j) 0) (sym u)))
-          (λ u. absurd (omega arith));
-      kept = λ k l. getD-set-other out (to + n) k x 0 (λ q. omega arith) ∙ r .kept k l;
-    }
-
--- ---- the fields, one after the other
 pub record Copying (s : Recipe) (out₀ out : List ℕ) (i : ℕ) : Type 0 where
   pub long : length out ≡ length out₀
   pub done : (j k : ℕ) → j < i → k < s .width → getD out (j * s .width + k) 0 ≡ getD (s .bytes) (getD (places s) j 0 + 1 + k) 0
@@ -198,15 +179,28 @@ fields-below w i j k h l =
     omega arith
 
 pub copying-one : {s : Recipe} {out₀ out out′ : List ℕ} {i : ℕ} (p : ℕ) → Copying s out₀ out i → p ≡ getD (places s) i 0
-    → Put (s .bytes) (p + 1) out (i * s .width) out′ (s .width) → Copying s out₀ out′ (i + 1)
-copying-one {s} {out₀} {out} {out′} {i} p r e t = record {
-  long = t .long ∙ r .long;
+    → p + 1 + s .width ≤ length (s .bytes) → i * s .width + s .width ≤ length out
+    → out′ ≡ sets out (i * s .width) (take (s .width) (drop (p + 1) (s .bytes))) → Copying s out₀ out′ (i + 1)
+copying-one {s} {out₀} {out} {out′} {i} p r e a b t = record {
+  long = ap length t ∙ (length-sets out (i * s .width) f ∙ r .long);
   done = λ j k h l.
       three j i
-      (λ u. t .kept (j * s .width + k) (fields-below (s .width) i j k u l) ∙ r .done j k u l)
-      (λ u. ap (λ (x : ℕ). getD out′ (x * s .width + k) 0) u ∙ (t .done k l ∙ ap (λ (x : ℕ). getD (s .bytes) (x + 1 + k) 0) (e ∙ ap (λ (x : ℕ). getD (places s) x 0) (sym u))))
+      (λ u. ap (λ (y : List ℕ). getD y (j * s .width + k) 0) t ∙ (stored-before f out (i * s .width) (j * s .width + k) (fields-below (s .width) i j k u l) ∙ r .done j k u l))
+      (λ u. ap (λ (x : ℕ). getD out′ (x * s .width + k) 0) u ∙ (stands k l ∙ ap (λ (x : ℕ). getD (s .bytes) (x + 1 + k) 0) (e ∙ ap (λ (x : ℕ). getD (places s) x 0) (sym u))))
       (λ u. absurd (omega arith));
 }
+  where
+    f : List ℕ
+    f = take (s .width) (drop (p + 1) (s .bytes))
+
+    long-field : length f ≡ s .width
+    long-field = length-take-le (s .width) (drop (p + 1) (s .bytes)) (omega (arith, length-drop (p + 1) (s .bytes)))
+
+    stands : (k : ℕ) → k < s .width → getD out′ (i * s .width + k) 0 ≡ getD (s .bytes) (p + 1 + k) 0
+    stands k l =
+        ap (λ (y : List ℕ). getD y (i * s .width + k) 0) t
+        ∙ (stored-at f out (i * s .width) k (omega (arith, long-field)) (omega (arith, long-field))
+        ∙ (getD-take (s .width) (drop (p + 1) (s .bytes)) k 0 l ∙ getD-drop (p + 1) (s .bytes) k 0))
 
 pub fields-room : {s : Recipe} {at : List ℕ} {n : ℕ} → Listed s at n → {i : ℕ} → i < n → i * s .width + s .width ≤ 16384
 fields-room {s} {at} {n} l {i} h =

@@ -14,7 +14,6 @@ ghost use Rattle.recipe.specs.Definitions.{holder, definitionNamed, portNamed, 
 ghost use Rattle.recipe.specs.Reading.{fault₄, isParentFault, isOwnPortFault, isPortFault, isModelFault, isSubmodelFieldFault, isOwnerFault, isUndeclared, fault₅};
 ghost use Rattle.links.specs.Entries.{tagOf, keyOf, Clear, Listed, ByPlace, Copied, HasKeys, Indexed, entryNamed, declaredNamed, NameField};
 ghost use Rattle.links.specs.Links.{Named, Recorded, placeOf, modelLink, ownerLink, submodelLink, elementLink, parentLink, referenceLink, nextLink, Linked};
-ghost use Rattle.links.specs.Steps.{Put};
 use name_index::Layout;
 use names::Found;
 
@@ -53,18 +52,6 @@ fn hold_records(s: &[u8], w: usize, at: &[u16], n: usize, hold: &mut [u16; 16384
     }
 }
 
-// Copies the w bytes from `from` on to the offset `to`.
-fn put_field(s: &[u8], from: usize, w: usize, fields: &mut [u8], to: usize)
-    requires { ⌜ (from + w ≤ length (now s)) × (to + w ≤ length (now fields)) ⌝ }
-    ensures { λ r. ⌜ Put (now (s .entry)) from (now (fields .entry)) to (now (fields .exit)) w ⌝ }
-{
-    let mut k = 0;
-    while k < w {
-        fields[to + k] = s[from + k];
-        k += 1;
-    }
-}
-
 // Writes the first field of each record, in order.
 fn copy_fields(s: &[u8], w: usize, at: &[u16], n: usize, fields: &mut [u8])
     requires { ⌜ Clear (record { width = w; bytes = now s }) × (Listed (record { width = w; bytes = now s }) (now at) n × (16384 ≤ length (now fields))) ⌝ }
@@ -72,7 +59,7 @@ fn copy_fields(s: &[u8], w: usize, at: &[u16], n: usize, fields: &mut [u8])
 {
     let mut i = 0;
     while i < n {
-        put_field(s, at[i] as usize + 1, w, fields, i * w);
+        names::put_bytes(s, at[i] as usize + 1, w, fields, i * w);
         i += 1;
     }
 }

@@ -1,5 +1,5 @@
 // An index of names: positions of equally long records in order of their keys, then names. It is sorted by merging, so that it
-// takes n log n comparisons on all input. Public calls, for the floors above: hash, hash_names, build, find, first_repeat.
+// takes n log n comparisons on all input. For the floors above: hash, hash_names, build, find, first_repeat.
 ghost use mathlib.Core.Path.{_≡_};
 ghost use mathlib.Core.List.{_∷_, _++_};
 ghost use Prim.Native.Nat.{_+_, _-_, _*_, _/_, _≤_, _<_};

@@ -8,3 +8,4 @@ pub mod Orders
 pub mod Runs
 pub mod Names
 pub mod Judging
+pub mod Stores

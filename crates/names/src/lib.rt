@@ -1,8 +1,9 @@
-// Name fields of any width: a name and zeros behind it, or zeros alone. They are read, compared and cut here, and nowhere else.
-// Public calls: read_field, read_optional, is_blank, is_same, comes_before, unpadded, refuse. None of them requires anything.
+// Name fields of any width: a name and zeros behind it, or zeros alone. They are read, compared, copied and cut here, and nowhere else.
+// Public calls: read_field, read_optional, is_blank, is_same, comes_before, unpadded, refuse. None of them requires anything. For the floors above: put_bytes.
 ghost use mathlib.Core.Path.{_≡_};
 ghost use Prim.Native.Nat.{_+_, _≤_};
-ghost use lib.ListN.{length, drop};
+ghost use lib.ListN.{length, take, drop};
+ghost use lib.Seq.{sets};
 ghost use Rattle.names.specs.Lists.{same, keepWhile};
 ghost use Rattle.names.specs.Names.{isFirst, isOther, isBlank, text, fieldOf, optionalOf};
 ghost use Rattle.names.specs.Order.{before};
@@ -234,5 +235,17 @@ pub fn refuse(number: u64, place: usize) -> Refusal
     Refusal {
         number: number,
         place: place as u64,
+    }
+}
+
+// Copies the n bytes from a on to the offset `at`.
+pub fn put_bytes(from: &[u8], a: usize, n: usize, out: &mut [u8], at: usize)
+    requires { ⌜ (a + n ≤ length (now from)) × (at + n ≤ length (now out)) ⌝ }
+    ensures { λ _. ⌜ now (out .exit) ≡ sets (now (out .entry)) at (take n (drop a (now (from .entry)))) ⌝ }
+{
+    let mut k = 0;
+    while k < n {
+        out[at + k] = from[a + k];
+        k += 1;
     }
 }

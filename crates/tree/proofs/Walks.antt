@@ -9,7 +9,7 @@ use mathlib.Core.Bool.{Bool, _||_, false, false≢true, not, true, true≢false}
 use mathlib.Core.List.{List, [], _++_, _∷_, append-assoc, append-nil}
 use mathlib.Core.Logic.{_⊎_, inl, inr, ⊎-elim}
 use mathlib.Core.Path.{_∙_, _≡_, ap, refl, sym}
-use native.Mathlib.Nat.{add-suc, add-zero, suc-add}
+use native.Mathlib.Nat.{add-zero}
 use native.Mathlib.Numerals.{sub-one}
 use native.Mathlib.Omega.{arith}
 use Rattle.names.specs.Lists.{In}
@@ -17,6 +17,7 @@ use Rattle.names.proofs.Lists.{any-in, append-right, in-append, not-any, any-no
 use Rattle.names.proofs.ListOrder.{Rising, rising-in}
 use Rattle.names.proofs.Tests.{by-cases, or-cases, or-left, or-none-left, or-none-right, or-right}
 use Rattle.recipe.specs.Definitions.{definitions, elements, holder, modelOf, submodels}
+use Rattle.names.proofs.Stores.{sets-append}
 use Rattle.recipe.specs.Records.{Recipe, isModel, isSubmodel, kind, next, recordLength, stop}
 use Rattle.recipe.proofs.Going.{here}
 use Rattle.recipe.proofs.Spans.{Rest, definition-place, rest-start}
@@ -25,10 +26,6 @@ use Rattle.tree.specs.Walk.{Covered, Grown, Long, Right, deepIn, instsIn
 use Rattle.tree.proofs.Numbering.{Shallow, submodels-rise, total-cong, weight-is}
 
 -- ---- lists
-pub sets-append : (xs l : List ℕ) (i : ℕ) (ys : List ℕ) → sets l i (xs ++ ys) ≡ sets (sets l i xs) (i + length xs) ys
-sets-append [] l i ys = rw add-zero
-sets-append (x ∷ xs) l i ys = sets-append xs (set l i x) (suc i) ys ∙ rw (suc-add, add-suc)
-
 pub total-append : (f : ℕ → ℕ) (xs ys : List ℕ) → total f (xs ++ ys) ≡ total f xs + total f ys
 total-append f [] ys = omega arith
 total-append f (x ∷ xs) ys = omega (arith, total-append f xs ys)

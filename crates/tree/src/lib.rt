@@ -1,5 +1,5 @@
 // The tree of a recipe: its instances, the targets of ports and marks, and the refusals 7, 8 and 10.
-// For the floors above: wide, plant, count_elements, first_untargeted, first_misclassed. They take the name width w, and tables by place that the floor below fills.
+// For the floors above: plant, count_elements, first_untargeted, first_misclassed. They take the name width w, and tables by place that the floor below fills.
 ghost use mathlib.Core.Path.{_≡_};
 ghost use mathlib.Core.Bool.{true, false, not, _||_};
 ghost use mathlib.Core.List.{[], _∷_};

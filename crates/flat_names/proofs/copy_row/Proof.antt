@@ -3,7 +3,7 @@
 use Prim.Native.Nat.{_-_, _≤_}
 use native.Mathlib.Omega.{arith}
 use mathlib.Core.Path.{_≡_}
-use Rattle.flat_names.proofs.Puts.{Copied, copied-start}
+use Rattle.names.proofs.Stores.{Copied, copied-start}
 use Rattle.flat_names.proofs.Filling.{within-one}
 use Rattle.flat_names.proofs.copy_row.Statement.{statement}
 use Rattle.flat_names.proofs.copy_row.Tie as tie

@@ -15,23 +15,23 @@ abbrev μ-loop : tie.MeasureT-loop
 loop-holds : tie.Need-loop-holds Inv-loop μ-loop
 loop-holds c = (omega arith, copying-start _ _)
 
-mul-put-field : tie.Need-mul-put-field Inv-loop μ-loop
-mul-put-field c = let s = c .before .before .before .before .before in let i = c .before .loop .inv in let h = c .loop-test .taken in let pre = s .pre in omega (arith, pre .1 .0 .few)
+mul-put-bytes : tie.Need-mul-put-bytes Inv-loop μ-loop
+mul-put-bytes c = let s = c .before .before .before .before .before in let i = c .before .loop .inv in let h = c .loop-test .taken in let pre = s .pre in omega (arith, pre .1 .0 .few)
 
-shared-slice-read-put-field : tie.Need-shared-slice-read-put-field Inv-loop μ-loop
-shared-slice-read-put-field c = let s = c .before .before .before .before .before .before in let i = c .before .before .loop .inv in let h = c .before .loop-test .taken in let pre = s .pre in omega (arith, pre .1 .0 .enough)
+shared-slice-read-put-bytes : tie.Need-shared-slice-read-put-bytes Inv-loop μ-loop
+shared-slice-read-put-bytes c = let s = c .before .before .before .before .before .before in let i = c .before .before .loop .inv in let h = c .before .loop-test .taken in let pre = s .pre in omega (arith, pre .1 .0 .enough)
 
-cast-put-field : tie.Need-cast-put-field Inv-loop μ-loop
-cast-put-field c = let s = c .before .before .before .before .before .before in let i = c .before .before .loop .inv in let h = c .before .loop-test .taken in let pre = s .pre in omega (arith, listed-low (pre .0) (pre .1 .0) h)
+cast-put-bytes : tie.Need-cast-put-bytes Inv-loop μ-loop
+cast-put-bytes c = let s = c .before .before .before .before .before .before in let i = c .before .before .loop .inv in let h = c .before .loop-test .taken in let pre = s .pre in omega (arith, listed-low (pre .0) (pre .1 .0) h)
 
-add-put-field : tie.Need-add-put-field Inv-loop μ-loop
-add-put-field c = let s = c .before .before .before .before .before .before in let i = c .before .before .loop .inv in let h = c .before .loop-test .taken in let pre = s .pre in omega (arith, listed-low (pre .0) (pre .1 .0) h)
+add-put-bytes : tie.Need-add-put-bytes Inv-loop μ-loop
+add-put-bytes c = let s = c .before .before .before .before .before .before in let i = c .before .before .loop .inv in let h = c .before .loop-test .taken in let pre = s .pre in omega (arith, listed-low (pre .0) (pre .1 .0) h)
 
-mul-put-field-2 : tie.Need-mul-put-field-2 Inv-loop μ-loop
-mul-put-field-2 c = let s = c .before .before .before .before .before .before .before in let i = c .before .before .before .loop .inv in let h = c .before .before .loop-test .taken in let pre = s .pre in omega (arith, fields-room (pre .1 .0) h)
+mul-put-bytes-2 : tie.Need-mul-put-bytes-2 Inv-loop μ-loop
+mul-put-bytes-2 c = let s = c .before .before .before .before .before .before .before in let i = c .before .before .before .loop .inv in let h = c .before .before .loop-test .taken in let pre = s .pre in omega (arith, fields-room (pre .1 .0) h)
 
-put-field-requires : tie.Need-put-field-requires Inv-loop μ-loop
-put-field-requires c κs = let s = c .before .before .before .before .before .before .before in let i = c .before .before .before .loop .inv in let h = c .before .before .loop-test .taken in let pre = s .pre in (omega (arith, listed-fits (pre .0) (pre .1 .0) h), omega (arith, fields-room (pre .1 .0) h, i .1 .long, pre .1 .1))
+put-bytes-requires : tie.Need-put-bytes-requires Inv-loop μ-loop
+put-bytes-requires c κs = let s = c .before .before .before .before .before .before .before in let i = c .before .before .before .loop .inv in let h = c .before .before .loop-test .taken in let pre = s .pre in (omega (arith, listed-fits (pre .0) (pre .1 .0) h), omega (arith, fields-room (pre .1 .0) h, i .1 .long, pre .1 .1))
 
 add-i : tie.Need-add-i Inv-loop μ-loop
 add-i c = let s = c .before .before .before .before .before .before .before .before .before .before in let i = c .before .before .before .before .before .before .loop .inv in let h = c .before .before .before .before .before .loop-test .taken in let pre = s .pre in omega (arith, pre .1 .0 .few)
@@ -40,7 +40,7 @@ loop-less : tie.Need-loop-less Inv-loop μ-loop
 loop-less c = omega arith
 
 loop-again : tie.Need-loop-again Inv-loop μ-loop
-loop-again c = let s = c .before .before .before .before .before .before .before .before .before .before in let i = c .before .before .before .before .before .before .loop .inv in let h = c .before .before .before .before .before .loop-test .taken in let pre = s .pre in (omega arith, copying-one _ (i .1) (pre .1 .0 .listed _ h) (c .before .before .put-field .ensures))
+loop-again c = let s = c .before .before .before .before .before .before .before .before .before .before in let i = c .before .before .before .before .before .before .loop .inv in let h = c .before .before .before .before .before .loop-test .taken in let pre = s .pre in (omega arith, copying-one _ (i .1) (pre .1 .0 .listed _ h) (omega (arith, listed-fits (pre .0) (pre .1 .0) h)) (omega (arith, fields-room (pre .1 .0) h, i .1 .long, pre .1 .1)) (c .before .before .put-bytes .ensures))
 
 same-length : tie.Need-same-length Inv-loop μ-loop
 same-length c = c .before .loop .inv .1 .long
@@ -55,12 +55,12 @@ copy-fields-spec =
     Inv-loop
     μ-loop
     loop-holds
-    mul-put-field
-    shared-slice-read-put-field
-    cast-put-field
-    add-put-field
-    mul-put-field-2
-    put-field-requires
+    mul-put-bytes
+    shared-slice-read-put-bytes
+    cast-put-bytes
+    add-put-bytes
+    mul-put-bytes-2
+    put-bytes-requires
     add-i
     loop-less
     loop-again

@@ -1,11 +1,11 @@
--- `flat_names::put_bytes` meets its contract: the invariant: k bytes are copied.
+-- `names::put_bytes` meets its contract: the invariant: k bytes are copied.
 -- Assumes nothing.
 use Prim.Native.Nat.{_-_, _≤_}
 use native.Mathlib.Omega.{arith}
 use mathlib.Core.Path.{_≡_}
-use Rattle.flat_names.proofs.Puts.{Copied, copied-start, copied-one}
-use Rattle.flat_names.proofs.put_bytes.Statement.{statement}
-use Rattle.flat_names.proofs.put_bytes.Tie as tie
+use Rattle.names.proofs.Stores.{Copied, copied-start, copied-one}
+use Rattle.names.proofs.put_bytes.Statement.{statement}
+use Rattle.names.proofs.put_bytes.Tie as tie
 
 abbrev Inv-loop : tie.InvT-loop
 Inv-loop from a n out₀ at k₀ out k = (k ≤ n) × Copied from a out₀ at out k
