@@ -87,9 +87,6 @@ module _ (s : Recipe) where
   rest-start = refl
 
   -- ---- by number
-  pub numbered-in : (i : ℕ) → i < length (places s) → In (getD (places s) i 0) (places s)
-  numbered-in i h = getD-in (places s) i 0 h
-
   pub numbered-less : (i j : ℕ) → i < j → j < length (places s) → getD (places s) i 0 < getD (places s) j 0
   numbered-less i j l h = rising-at 0 (places s) i j (places-rise s) l h
 

@@ -213,7 +213,3 @@ module _ (name : ℕ → List ℕ) (from h : ℕ) (xs a b : List ℕ) (l : h ≤
       let t : h + (length xs - h) ≡ length xs = omega arith in
       halves-are
       ∙ (ordered-joined name from h (length xs - h) o (omega arith) (rw halves-are at e) ∙ ap (ordered name from) t)
-
--- ---- an index that was built
-pub built-take : (name : ℕ → List ℕ) (n : ℕ) (own more : List ℕ) → own ≡ ordered name 0 n ++ more → take n own ≡ ordered name 0 n
-built-take name n own more e = ap (take n) e ∙ take-at (ordered name 0 n) more n (ordered-length name 0 n)

@@ -10,7 +10,7 @@ use borrow.Author.Tests.{eqb-true, eqb-false, lt-leb}
 use Rattle.names.specs.Names.{isName, isNameOrBlank, text}
 use Rattle.names.proofs.Tests.{or-cases, and-left}
 use Rattle.flat_table.specs.Classes.{isClass}
-use Rattle.recipe.specs.Records.{Recipe, partOffset, submodelPart, isKnown, recordLength, portKind, deletionKind, replacedByKind, ownedKind, markKind, pointerKind, kind, isDeletion, isReplacement, isReplacedBy, isMark, isPort, field, byte, firstField, name, class, parentField, referenceField, modelField, submodelOffset, submodelField, way, targetField}
+use Rattle.recipe.specs.Records.{Recipe, partOffset, submodelPart, isKnown, recordLength, deletionKind, ownedKind, markKind, pointerKind, kind, isDeletion, isReplacement, isReplacedBy, isMark, isPort, field, byte, firstField, name, class, parentField, referenceField, modelField, submodelOffset, submodelField, way, targetField}
 use Rattle.recipe.specs.Reading.{endsWithUnderscore, isWay, reads, readsBehind, isForm}
 
 -- ---- which kinds there are
@@ -74,18 +74,6 @@ kind-least w =
 -- ---- how the body of each kind reads
 module _ (s : Recipe) (p : ℕ) where
   -- what is asked of a record is asked of its kind byte
-  pub port-kind : isPort s p ≡ portKind (kind s p)
-  unfolding isPort
-  port-kind = refl
-
-  pub deletion-kind : isDeletion s p ≡ deletionKind (kind s p)
-  unfolding isDeletion
-  deletion-kind = refl
-
-  pub replaced-by-kind : isReplacedBy s p ≡ replacedByKind (kind s p)
-  unfolding isReplacedBy
-  replaced-by-kind = refl
-
   pub owned-kind : isReplacement s p || isReplacedBy s p ≡ ownedKind (kind s p)
   unfolding isReplacement isReplacedBy
   owned-kind = refl

@@ -76,10 +76,6 @@ module _ (s : Recipe) (p : ℕ) where
   unfolding kind
   of-kind e = e
 
-  pub of-other : {k : ℕ} → (getD (s .bytes) p 0 ≡ k → ⊥) → kind s p ≡ k → ⊥
-  unfolding kind
-  of-other n e = n e
-
   -- ---- a record that row 2 does not refuse has room for its fields
   module _ (e : isReadable s p ≡ true) where
     fits : next s p ≤ length (s .bytes)
