@@ -4,11 +4,15 @@
   tools/prove.py goals CRATE [--holes] [--write]   goals and errors of `rt dev`, short; --write saves printed skeletons
   tools/prove.py paths CRATE FUNCTION              for each need, the places behind it: 0:if1{taken} | 1:loop{i inv} | ..
   tools/prove.py unused CRATE                      names that a proof or specification imports and does not use; --write drops them
+  tools/prove.py take CRATE                        before a change of the code: saves the answers of all proofs, places by name
+  tools/prove.py put CRATE FUNCTION..              after it: makes these proofs anew from the saved answers, and says what is new
 
-fill(crate, function, {need: answer}, uses) is for a script of one's own: in an answer `c@loop .inv` stands for
+fill(crate, {function: {need: answer}}, {function: uses}) is for a script of one's own: in an answer `c@loop .inv` stands for
 the path from `c` to the record that has the field `loop`, and `c@start` for the record of the function's entry.
+take, put and fill leave out proofs of cycles (proofs/+NAME), whose answers have another form.
 """
 import glob
+import json
 import os
 import re
 import shutil
@@ -64,14 +68,13 @@ def goals(crate, holes, write):
     print("proved:", " ".join(re.findall(r"^fn \w+::(\w+): proved", output, re.M)))
 
 
-def places(crate, function, part=""):
-    """For each need of a function the chain of its places, each the list of its fields and of their own fields.
-
-    `part` is one function of a cycle, whose proofs stand in one folder."""
+def places(crate):
+    """For each function of a crate, and each of its needs, the chain of places, each the list of its fields and of their own fields."""
     folder = tempfile.mkdtemp()
     subprocess.run(["rt", "dev", crate, "--generated", folder], capture_output=True)
-    own, before, fields, needs = {}, {}, {}, {}
-    for path in glob.glob(folder + "/*proofs/proofs/%s/Lts%s.antt" % (function, "-" + part if part else "*")):
+    found = {}
+    for path in glob.glob(folder + "/*proofs/proofs/*/Lts*.antt"):
+        own, before, fields, needs = {}, {}, {}, {}
         record, inner, need = None, False, None
         for line in open(path):
             if m := re.match(r" +pub record (\S+?)(·own)?(?: |$)", line):
@@ -89,44 +92,128 @@ def places(crate, function, part=""):
                     needs[need] = m.group(2)
             elif (m := re.match(r" +\(c : (\S+)\)", line)) and need not in needs:
                 needs[need] = m.group(1)
+
+        def chain(record):
+            while record:
+                yield fields.get(record, []), own.get(record, [])
+                record = before.get(record)
+
+        function = found.setdefault(path.split("/")[-2], {})
+        function.update({need: list(chain(record)) for need, record in needs.items()})
     shutil.rmtree(folder)
-
-    def chain(record):
-        while record:
-            yield fields.get(record, []), own.get(record, [])
-            record = before.get(record)
-
-    return {need: list(chain(record)) for need, record in needs.items()}
+    return found
 
 
-def fill(crate, function, answers, uses="", prefix=""):
-    """Fills answers into the skeleton of a function; `prefix` is the function's name before its needs, in a cycle."""
-    chains = places(crate, function, prefix.removesuffix("-").replace("-", "_"))
-    path = "crates/%s/proofs/%s/Proof.antt" % (crate, function)
-    text = re.sub(r"-- src/\S+\n|(?m:^use .* as (?:reads|lts)\n)", "", open(path).read())
+# A need as a proof answers it: name, need, invariants, `unfolding` line, arguments, answer.
+NEED = re.compile(r"(?m)^(\S+) : tie\.Need-(\S+)([^\n]*)\n((?:unfolding .*\n)?)\1((?: [^=\n]*)?) =((?:.|\n)*?)(?=\n\n|\n*\Z)")
 
-    def expand(answer, chain):
-        def path_to(m):
-            if m.group(1) == "start":
-                return "c" + " .before" * (len(chain) - 1)
-            for depth, (names, _) in enumerate(chain):
-                if m.group(1) in names:
-                    return "c" + " .before" * depth + " ." + m.group(1)
-            print("no place", m.group(1), "in", function)
+
+def by_name(answer, chain):
+    """The answer with each path from `c` named by the field where it ends, `c@if1`, or by the record that has it, `c@^if1`."""
+
+    def name(m):
+        depth, field = m.group(1).count(".before"), m.group(2)
+        if depth >= len(chain) or not (m.group(1) or field):
             return m.group(0)
+        if field and next((k for k, (names, _) in enumerate(chain) if field in names), None) == depth:
+            return "c@" + field
+        if depth == len(chain) - 1:
+            return "c@start" + (" ." + field if field else "")
+        return "c@^" + chain[depth][0][0] if not field and chain[depth][0] else m.group(0)
 
-        return re.sub(r"\bc@([\w\-]+)", path_to, answer)
+    return re.sub(r"(?<![\w@.])c((?: \.before)*)(?: \.(?!before)([\w\-]+))?(?![\w\-])", name, answer)
 
-    for need, answer in answers.items():
-        written = expand(answer, chains.get(need.removeprefix(prefix), []))
-        pattern = r"(?m)^(%s(?: [^=\n:]*)?) =(?! *$) .*$" % re.escape(need)
-        text, count = re.subn(pattern, lambda m: m.group(1) + " = " + written, text)
-        if count != 1:
-            print(function, "has", count, "answers for", need)
-    print(function, "left:", *re.findall(r"(?m)^(\S+)(?: [^=\n:]*)? = \?$", text))
-    new = [line for line in uses.strip().split("\n") if line and line not in text.split("\n")]
-    with open(path, "w") as file:
-        file.write("".join(line + "\n" for line in new) + text)
+
+def by_path(answer, chain, where):
+    """The answer with each named place written as its path from `c`."""
+
+    def path(m):
+        if not m.group(1) and m.group(2) == "start":
+            return "c" + " .before" * (len(chain) - 1)
+        for depth, (names, _) in enumerate(chain):
+            if m.group(2) in names:
+                return "c" + " .before" * depth + ("" if m.group(1) else " ." + m.group(2))
+        print("no place", m.group(2), "in", where)
+        return m.group(0)
+
+    return re.sub(r"(?<!\w)c@(\^?)([\w\-]+)", path, answer)
+
+
+def proof(crate, function):
+    return "crates/%s/proofs/%s/Proof.antt" % (crate, function)
+
+
+def saved(crate):
+    return "target/answers/%s.json" % crate
+
+
+def take(crate):
+    answers = {}
+    for function, needs in places(crate).items():
+        if os.path.exists(proof(crate, function)):
+            text = open(proof(crate, function)).read()
+            found = {m.group(1): [m.group(4), m.group(5), by_name(m.group(6), needs[m.group(2)])] for m in NEED.finditer(text)}
+            answers[function] = {"text": text, "answers": found}
+    os.makedirs("target/answers", exist_ok=True)
+    with open(saved(crate), "w") as file:
+        json.dump(answers, file, ensure_ascii=False, indent=1)
+    print(sum(len(function["answers"]) for function in answers.values()), "answers in", saved(crate))
+
+
+def put(crate, functions):
+    old = json.load(open(saved(crate)))
+    for function in functions:
+        if os.path.exists(proof(crate, function)):
+            os.remove(proof(crate, function))
+    goals(crate, True, True)
+    chains = places(crate)
+    for function in functions:
+        if not os.path.exists(proof(crate, function)):
+            print(function, "has no skeleton: it is proved without a file, or a callee has none yet")
+            continue
+        skeleton = open(proof(crate, function)).read()
+        text, answers = old[function]["text"], old[function]["answers"]
+        head = text[: NEED.search(text).start()]
+        if "{needs}" not in head:
+            head = re.sub(r"(?m)^(use \S+\.Statement\.)", r"use borrow.Author.Needs.{needs}\n\1", head, count=1)
+        blocks, names = [], set()
+        for m in NEED.finditer(skeleton):
+            name, need, invariants, _, arguments, answer = m.groups()
+            names.add(name)
+            unfolding = ""
+            if name in answers:
+                unfolding, arguments, answer = answers[name]
+                answer = by_path(answer, chains[function][need], function + " " + name)
+            else:
+                print(function, "has a new need", name)
+                answer = " search needs"
+            blocks.append("%s : tie.Need-%s%s\n%s%s%s =%s" % (name, need, invariants, unfolding, name, arguments, answer))
+        for name in answers.keys() - names:
+            print(function, "has no need", name, "any more")
+        end = skeleton[skeleton.index("\npub ") + 1 :]
+        with open(proof(crate, function), "w") as file:
+            file.write(head + "\n\n".join(blocks) + "\n\n" + end)
+
+
+def fill(crate, answers, uses={}):
+    """Fills answers into proofs or skeletons; an answer may be a pair, what it unfolds and the answer."""
+    chains = places(crate)
+    for function, needs in answers.items():
+        text = re.sub(r"-- src/\S+\n|(?m:^use .* as (?:reads|lts|\S+-reads)\n)", "", open(proof(crate, function)).read())
+        for name, answer in needs.items():
+            opened, answer = answer if isinstance(answer, tuple) else ("", answer)
+            m = next((m for m in NEED.finditer(text) if m.group(1) == name), None)
+            if m is None:
+                print(function, "has no need", name)
+                continue
+            written = by_path(answer, chains[function].get(m.group(2), []), function + " " + name)
+            unfolding = "unfolding %s\n" % opened if opened else ""
+            new = "%s : tie.Need-%s%s\n%s%s%s = %s" % (name, m.group(2), m.group(3), unfolding, name, m.group(5), written)
+            text = text[: m.start()] + new + text[m.end() :]
+        lines = [line for line in uses.get(function, "").strip().split("\n") if line and line not in text.split("\n")]
+        start = text.index("use ")
+        with open(proof(crate, function), "w") as file:
+            file.write(text[:start] + "".join(line + "\n" for line in lines) + text[start:])
 
 
 def unused(crate, write):
@@ -164,8 +251,12 @@ if __name__ == "__main__":
     if words[:1] == ["goals"] and len(words) == 2:
         goals(words[1], "--holes" in sys.argv, "--write" in sys.argv)
     elif words[:1] == ["paths"] and len(words) == 3:
-        for need, chain in places(words[1], words[2]).items():
+        for need, chain in places(words[1])[words[2]].items():
             print(need, " | ".join("%d:%s{%s}" % (k, ".".join(f), " ".join(o)) for k, (f, o) in enumerate(chain)))
+    elif words[:1] == ["take"] and len(words) == 2:
+        take(words[1])
+    elif words[:1] == ["put"] and len(words) > 2:
+        put(words[1], words[2:])
     elif words[:1] == ["unused"] and len(words) == 2:
         unused(words[1], "--write" in sys.argv)
     else:
