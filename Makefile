@@ -1,4 +1,4 @@
-# Bandrolt: run it, test it, measure it. What each target needs is said if it is missing.
+# Bandrolt: try it, run it, test it, measure it. What each target needs is said if it is missing.
 LIBRARIES = composer flat_table
 ARCHIVES = $(LIBRARIES:%=target/staticlib/lib%.a)
 PROGRAM = target/bin/bandrolt
@@ -6,20 +6,33 @@ SOURCES = crates.txt $(shell find crates -name '*.rt' -o -name '*.antt')
 BUILD = harness/target
 CC_FLAGS = -std=c11 -Wall -Wextra -Werror -O2 -Iinclude
 CARGO = cargo run --quiet --offline --release --manifest-path harness/Cargo.toml --bin
+# Two rt in one target folder would disturb each other; so each waits for the other, also under make -j.
+RT = flock target/rt.lock rt
 
-# Flattens document 01's sample R, or RECIPE=file in the text form of examples/, and prints the table.
-RECIPE = examples/sample-r.recipe
-run: lib $(PROGRAM)
-	@$(CARGO) recipes encode $(RECIPE) > target/recipe
+# Prints the table of document 01's sample R, or of RECIPE=file in the text form of examples/, unproved: seconds.
+SAMPLE = examples/sample-r.recipe
+RECIPE = $(SAMPLE)
+try: tools-there
+ifeq ($(RECIPE),$(SAMPLE))
+	@tools/try.sh crates/bandrolt/stdin crates/bandrolt/stdout
+else
+	@$(CARGO) recipe encode "$(RECIPE)" > target/recipe
+	@$(CARGO) recipe print target/recipe > target/printed
+	@tools/try.sh target/recipe target/printed
+endif
+
+# The same with the proved program, which takes some minutes to prove, once.
+run: $(PROGRAM)
+	@$(CARGO) recipe encode "$(RECIPE)" > target/recipe
 	@$(PROGRAM) < target/recipe
 
 # Checks the flat table of sample R, or the bytes of TABLE=file, as the solver would.
 TABLE = examples/sample-r.table
 table: $(BUILD)/solver
-	@$(BUILD)/solver table $(TABLE)
+	@$(BUILD)/solver table "$(TABLE)"
 
 # The whole gate; its last line is 'N passed, M failed'.
-test: tools-there
+test: tools-there valgrind-there
 	@tools/test.sh
 
 # Our calls beside the other program's, as a ratio, on typical and on hostile input.
@@ -27,15 +40,23 @@ bench: lib
 	@$(CARGO) bench
 	@$(CARGO) bench_recipes
 
-# The static libraries, target/staticlib/lib*.a. Making one proves its crate again, so it is done once.
+# The static libraries, target/staticlib/lib*.a. Making one proves its crate once more, so it is done once.
 lib: $(ARCHIVES)
 
-$(ARCHIVES): target/staticlib/lib%.a: $(SOURCES) | tools-there
-	@rt staticlib $* > target/lib.log 2>&1 || { cat target/lib.log; exit 1; }
+$(ARCHIVES): target/staticlib/lib%.a: target/below
+	@echo "proving $* once more, for the library: half a minute" >&2
+	@$(RT) staticlib $* > target/lib-$*.log 2>&1 || { cat target/lib-$*.log; exit 1; }
+
+# All crates below the composer, side by side; rt staticlib would prove them one by one.
+target/below: $(SOURCES) | tools-there
+	@echo "proving the crates below the composer, once: about 4 minutes" >&2
+	@tools/progress.sh target/below.log $(RT) check judging flat_names
+	@touch $@
 
 # The printing program.
 $(PROGRAM): $(SOURCES) | tools-there
-	@rt check bandrolt > target/program.log 2>&1 || { cat target/program.log; exit 1; }
+	@echo "proving the program and the 12 crates below it, once: about 4 minutes (make try needs seconds, and proves nothing)" >&2
+	@tools/progress.sh target/program.log $(RT) check bandrolt
 
 # The programs that the gate runs beside rt ci; each ends with 'N passed, M failed'.
 compare recipes: %: lib
@@ -45,8 +66,7 @@ program: lib $(PROGRAM)
 	@$(CARGO) program $(PROGRAM)
 
 # Few recipes under valgrind: no call reads or writes what it was not lent, nor goes by a byte that nobody wrote.
-memory: lib
-	@command -v valgrind > /dev/null || { echo "bandrolt's memory test needs valgrind, which is not on this machine's PATH"; exit 1; }
+memory: lib valgrind-there
 	@CARGO_TARGET_X86_64_UNKNOWN_LINUX_GNU_RUNNER="valgrind --quiet --error-exitcode=9" $(CARGO) recipes few
 
 solver stack: %: $(BUILD)/%
@@ -60,4 +80,7 @@ tools-there:
 	@for tool in rt gcc cargo; do command -v $$tool > /dev/null || { echo "bandrolt needs $$tool, which is not on this machine's PATH"; exit 1; }; done
 	@mkdir -p target
 
-.PHONY: run table test bench lib compare recipes program memory solver stack tools-there
+valgrind-there:
+	@command -v valgrind > /dev/null || { echo "bandrolt's memory test needs valgrind, which is not on this machine's PATH"; exit 1; }
+
+.PHONY: try run table test bench lib compare recipes program memory solver stack tools-there valgrind-there

@@ -1,7 +1,5 @@
 //! Runs the programs that flatten beside each other, on 01's recipes, on generated and on enumerated ones.
-//! `recipes [SEED]`, where the second random set follows from SEED or else from the clock; `recipes few`, for valgrind;
-//! `recipes encode FILE` writes the bytes of a recipe in text, `recipes show FILE` the text of bytes, and
-//! `recipes print FILE` what 01's printing program prints of bytes, by the other program.
+//! `recipes [SEED]`, where the second random set follows from SEED or else from the clock; `recipes few`, for valgrind.
 
 use harness::checks::{complaint, pattern, FLATTENERS};
 use harness::other::recipe::rules::{Rules, MUTANTS};
@@ -10,11 +8,10 @@ use harness::other::{recipe, RECORD};
 use harness::random::Random;
 use harness::recipes::enumerate::each_recipe;
 use harness::recipes::generate::case;
-use harness::recipes::named::{edges, examples, to_try, Named, ROOM};
-use harness::recipes::{other_prints, printed, text};
+use harness::recipes::named::{edges, examples, to_try, Named};
+use harness::recipes::{printed, text};
 use harness::report::{are_often, save, seed_from_clock, Tally};
 use std::collections::BTreeMap;
-use std::io::Write;
 use std::ops::RangeInclusive;
 use std::process::ExitCode;
 use std::time::Instant;
@@ -26,44 +23,24 @@ const FEW_CASES: u64 = 300;
 const NUMBERS: RangeInclusive<u64> = 0..=13;
 const LEAST_OF_A_NUMBER: usize = 1_250;
 const LEAST_OF_A_CONFLICT: usize = 250;
-const USAGE: &str = "usage: recipes [SEED] | recipes few | recipes encode|show|print FILE";
 
 fn main() -> ExitCode {
     let arguments: Vec<String> = std::env::args().skip(1).collect();
     let arguments: Vec<&str> = arguments.iter().map(String::as_str).collect();
-    let done = match arguments[..] {
-        [] => return check(seed_from_clock()),
-        ["few"] => return check_few(),
-        ["encode", file] => encode(file),
-        ["show", file] => read(file).map(|recipe| text::print(&recipe).into_bytes()),
-        ["print", file] => read(file).map(|recipe| other_prints(&recipe, ROOM).into_bytes()),
+    match arguments[..] {
+        [] => check(seed_from_clock()),
+        ["few"] => check_few(),
         [seed] => match seed.parse() {
-            Ok(seed) => return check(seed),
-            Err(_) => Err(USAGE.into()),
+            Ok(seed) => check(seed),
+            Err(_) => usage(),
         },
-        _ => Err(USAGE.into()),
-    };
-    let written = done.and_then(|bytes| {
-        let written = std::io::stdout().write_all(&bytes);
-        written.map_err(|error| error.to_string())
-    });
-    match written {
-        Ok(()) => ExitCode::SUCCESS,
-        Err(error) => {
-            eprintln!("{error}");
-            ExitCode::from(2)
-        }
+        _ => usage(),
     }
 }
 
-fn read(file: &str) -> Result<Vec<u8>, String> {
-    std::fs::read(file).map_err(|error| format!("{file}: {error}"))
-}
-
-fn encode(file: &str) -> Result<Vec<u8>, String> {
-    let text = String::from_utf8_lossy(&read(file)?).into_owned();
-    let example = text::parse_example(&text).map_err(|error| format!("{file}: {error}"))?;
-    Ok(example.recipe)
+fn usage() -> ExitCode {
+    eprintln!("usage: recipes [SEED] | recipes few");
+    ExitCode::from(2)
 }
 
 /// What the recipes of one set have shown.
