@@ -12,7 +12,7 @@ pub record Recipe : Type 0 where
   pub width : ℕ
   pub bytes : List ℕ
 
--- column "Body, in order": what a part of a body is
+-- what a part of a body is
 pub data Part : Type 0 where
   -- a name: "name", "model", "submodel", "owner", "target"
   aName : Part
@@ -25,16 +25,23 @@ pub data Part : Type 0 where
   -- "way"
   aWay : Part
 
--- the table of the kinds: the body of kind 0 (which is none), 1, 2 .. 7
+-- the table of the kinds, column "Body, in order"; there is no kind 0
 abbrev pub bodies : List (List Part)
 bodies =
     []
+    -- 1 model: name
     ∷ (aName ∷ [])
+    -- 2 element: name, class byte, parent or blank, reference or blank
     ∷ (aName ∷ aClass ∷ aNameOrBlank ∷ aNameOrBlank ∷ [])
+    -- 3 port: name, submodel or blank, way, target
     ∷ (aName ∷ aNameOrBlank ∷ aWay ∷ aName ∷ [])
+    -- 4 submodel: name, model
     ∷ (aSubmodelName ∷ aName ∷ [])
+    -- 5 deletion: submodel, way, target
     ∷ (aName ∷ aWay ∷ aName ∷ [])
+    -- 6 replacement: owner, submodel, way, target
     ∷ (aName ∷ aName ∷ aWay ∷ aName ∷ [])
+    -- 7 replaced-by: owner, submodel, way, target
     ∷ (aName ∷ aName ∷ aWay ∷ aName ∷ [])
     ∷ []
 
