@@ -25,7 +25,7 @@ pub const FLATTENERS: &[(&str, Flatten)] = &[
 ];
 
 /// The programs that check tables; all must find closed what flattening leaves.
-const TABLE_CHECKS: &[fn(&[u8]) -> TableAnswer] =
+pub const TABLE_CHECKS: &[fn(&[u8]) -> TableAnswer] =
     &[|table| table::check(table).into(), check_table];
 
 /// The first complaint of the checks.

@@ -1,7 +1,9 @@
-//! Runs the programs that flatten beside each other, on 01's recipes, on generated and on enumerated ones.
+//! Runs the programs that flatten beside each other, on 01's recipes, on those that are proved of the definitions, on
+//! generated and on enumerated ones.
 //! `recipes [SEED]`, where the second random set follows from SEED or else from the clock; `recipes few`, for valgrind.
 
-use harness::checks::{complaint, pattern, FLATTENERS};
+use harness::bandrolt::Answer;
+use harness::checks::{complaint, pattern, FLATTENERS, TABLE_CHECKS};
 use harness::other::recipe::rules::{Rules, MUTANTS};
 use harness::other::recipe::slow::{self, conflicts, Conflict};
 use harness::other::{recipe, RECORD};
@@ -9,9 +11,10 @@ use harness::random::Random;
 use harness::recipes::enumerate::each_recipe;
 use harness::recipes::generate::case;
 use harness::recipes::named::{edges, examples, to_try, Named};
+use harness::recipes::proved::{self, Sample, TableSample};
 use harness::recipes::{printed, text};
 use harness::report::{are_often, save, seed_from_clock, Tally};
-use std::collections::BTreeMap;
+use std::collections::{BTreeMap, BTreeSet};
 use std::ops::RangeInclusive;
 use std::process::ExitCode;
 use std::time::Instant;
@@ -21,8 +24,12 @@ const CASES_OF_A_SEED: u64 = 50_000;
 const FEW_CASES: u64 = 300;
 /// The numbers that recipes are answered with; each must come often enough.
 const NUMBERS: RangeInclusive<u64> = 0..=13;
+/// And those of tables.
+const ALL_NUMBERS: RangeInclusive<u64> = 0..=17;
 const LEAST_OF_A_NUMBER: usize = 1_250;
 const LEAST_OF_A_CONFLICT: usize = 250;
+/// How many mutants the proved recipes must tell.
+const LEAST_TOLD_BY_PROVED: usize = 80;
 
 fn main() -> ExitCode {
     let arguments: Vec<String> = std::env::args().skip(1).collect();
@@ -77,6 +84,64 @@ fn check_named(tally: &mut Tally) {
     }
 }
 
+/// The programs answer what is proved of the definitions.
+fn check_proved(samples: &[Sample], tally: &mut Tally) {
+    println!("{} recipes proved of the definitions", samples.len());
+    for sample in samples {
+        let agree = FLATTENERS.iter().all(|(program, flatten)| {
+            let agrees = answers_as_proved(sample, flatten);
+            if !agrees {
+                println!("{program} answers otherwise:");
+                println!("{}", text::print(&sample.recipe));
+            }
+            agrees
+        });
+        tally.add("the programs answer as is proved of a recipe", agree);
+    }
+    let tables = proved::tables();
+    println!("{} tables proved of them", tables.len());
+    for TableSample { table, verdict } in &tables {
+        let answer = (*verdict).into();
+        let agree = TABLE_CHECKS.iter().all(|check| check(table) == answer);
+        tally.add("the programs answer as is proved of a table", agree);
+    }
+    let verdicts = samples.iter().map(|sample| sample.verdict);
+    let verdicts = verdicts.chain(tables.iter().map(|sample| sample.verdict));
+    let numbers: BTreeSet<u64> = verdicts.map(|v| Answer::from(v).number).collect();
+    let is_whole = numbers.into_iter().eq(ALL_NUMBERS);
+    tally.add("each number is proved of a recipe or table", is_whole);
+}
+
+/// The proved recipes tell the mutants: a definition with a mutant's error would not be proved of them.
+fn check_told_by_proved(samples: &[Sample], mutants: &[Rules], tally: &mut Tally) {
+    let agrees = |sample: &Sample, rules: &Rules| {
+        answers_as_proved(sample, |recipe, table| slow::flatten(recipe, table, rules))
+    };
+    // On which 01's own rules disagree, any would.
+    let right = Rules::default();
+    let samples: Vec<&Sample> = samples.iter().filter(|s| agrees(s, &right)).collect();
+    let is_told = |rules: &Rules| samples.iter().any(|sample| !agrees(sample, rules));
+    let mutants = MUTANTS.iter().zip(mutants);
+    let not_told = mutants.filter(|(_, rules)| !is_told(rules));
+    let not_told: Vec<&str> = not_told.map(|((what, _), _)| *what).collect();
+    let all = MUTANTS.len();
+    let told = all - not_told.len();
+    println!("  {told} of {all} mutants are told by these recipes; not told: {not_told:?}");
+    let what = format!(
+        "at least {LEAST_TOLD_BY_PROVED} of the {all} wrong rule sets are told apart by recipes that are proved of the definitions"
+    );
+    tally.add(&what, told >= LEAST_TOLD_BY_PROVED);
+}
+
+/// Does a program answer what is proved, and write that table and nothing else?
+fn answers_as_proved(sample: &Sample, flatten: impl Fn(&[u8], &mut [u8]) -> Answer) -> bool {
+    let mut output = pattern(sample.room);
+    let answer = flatten(&sample.recipe, &mut output);
+    let mut proved = pattern(sample.room);
+    proved[..sample.table.len()].copy_from_slice(&sample.table);
+    answer == sample.verdict.into() && output == proved
+}
+
 fn check_random(seed: u64, cases: u64, mutants: &[Rules], tally: &mut Tally) -> Outcome {
     let mut outcome = Outcome::trying(0..mutants.len());
     let start = Instant::now();
@@ -93,6 +158,9 @@ fn check(seed: u64) -> ExitCode {
     let mut tally = Tally::default();
     let mutants: Vec<Rules> = MUTANTS.iter().map(|(_, bend)| Rules::bent(*bend)).collect();
     check_named(&mut tally);
+    let samples = proved::recipes();
+    check_proved(&samples, &mut tally);
+    check_told_by_proved(&samples, &mutants, &mut tally);
 
     let mut outcomes = Vec::new();
     for seed in [FIXED_SEED, seed] {

@@ -7,6 +7,7 @@ pub mod draft;
 pub mod enumerate;
 pub mod generate;
 pub mod named;
+pub mod proved;
 pub mod text;
 
 use crate::bandrolt::Answer;
