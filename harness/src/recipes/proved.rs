@@ -1,4 +1,4 @@
-//! The recipes and tables that are proved of the definitions, read from the file that the prover reads.
+//! The recipes and tables that are proved of the definitions, read from the files that the prover reads.
 //! Of antt this evaluates definitions by one equation, over numbers, names in quotes, and lists.
 
 use crate::other::{Refusal, Verdict, FIELD, NAME};
@@ -7,10 +7,8 @@ use std::iter::Peekable;
 use std::str::SplitWhitespace;
 use Value::*;
 
-const FILE: &str = include_str!("../../../crates/composer/specs/Samples.antt");
-
-/// The statements that crates/composer/proofs/Starred.antt shows.
-const STATEMENTS: [&str; 2] = ["starredHold", "moreHold"];
+const SAMPLES: &str = include_str!("../../../crates/composer/specs/Samples.antt");
+const PROOFS: &str = include_str!("../../../crates/composer/proofs/Starred.antt");
 
 /// A recipe, the length of the output, the verdict, and the flat table.
 pub struct Sample {
@@ -26,7 +24,7 @@ pub struct TableSample {
     pub verdict: Verdict,
 }
 
-/// What is in the lists of which a statement says `every holdsOf`.
+/// What is in the lists of which a proved statement says `every holdsOf`.
 pub fn recipes() -> Vec<Sample> {
     stated("holdsOf", |made, of| match (made, of) {
         ("refuses", [recipe, room, number, place]) => Sample {
@@ -45,7 +43,7 @@ pub fn recipes() -> Vec<Sample> {
     })
 }
 
-/// What is in the lists of which a statement says `every tableHoldsOf`.
+/// What is in the lists of which a proved statement says `every tableHoldsOf`.
 pub fn tables() -> Vec<TableSample> {
     stated("tableHoldsOf", |made, of| match (made, of) {
         ("unclosed", [table, number, place]) => TableSample {
@@ -66,11 +64,14 @@ fn refusal(number: &Value, place: &Value) -> Verdict {
     Err(Refusal { number, place })
 }
 
-/// The samples of which the statements say that every one passes a test.
+/// The samples of which a proved statement says that every one passes a test.
 fn stated<T>(test: &str, sample: fn(&str, &[Value]) -> T) -> Vec<T> {
-    let file = File::read(FILE);
+    let file = File::read(SAMPLES);
     let mut samples = Vec::new();
-    for statement in STATEMENTS {
+    let proved = PROOFS
+        .lines()
+        .filter_map(|line| line.strip_suffix(" ≡ true"));
+    for statement in proved.filter_map(|line| line.split(' ').next_back()) {
         let words: Vec<&str> = file.0[statement].body.split_whitespace().collect();
         let lists = words.windows(3).filter(|said| said[..2] == ["every", test]);
         for made in lists.flat_map(|said| file.call(said[2], &[]).list()) {
@@ -148,10 +149,8 @@ impl<'a> File<'a> {
     fn read(text: &'a str) -> Self {
         let mut definitions: HashMap<&str, Definition> = HashMap::new();
         let mut last = "";
-        for line in text
-            .lines()
-            .filter(|line| !line.trim_start().starts_with("--"))
-        {
+        let is_comment = |line: &&str| line.trim_start().starts_with("--");
+        for line in text.lines().filter(|line| !is_comment(line)) {
             let apart = |body: &str| body.replace('(', " ( ").replace(')', " ) ");
             if line.starts_with(' ') {
                 if let Some(definition) = definitions.get_mut(last) {
@@ -216,11 +215,8 @@ impl Expression<'_> {
         }
         let word = self.words.next().expect("a word");
         let mut of = Vec::new();
-        while self
-            .words
-            .peek()
-            .is_some_and(|word| !["∷", "++", ")"].contains(word))
-        {
+        let goes_on = |word: &&str| !["∷", "++", ")"].contains(word);
+        while self.words.peek().is_some_and(goes_on) {
             of.push(self.argument());
         }
         self.word(word, &of)
@@ -237,14 +233,14 @@ impl Expression<'_> {
     }
 
     fn word(&self, word: &str, of: &[Value]) -> Value {
-        let quoted = word
-            .strip_prefix('"')
-            .and_then(|word| word.strip_suffix('"'));
-        match (self.known.get(word), word.parse(), quoted) {
-            (Some(&value), _, _) => value.clone(),
-            (_, Ok(number), _) => Number(number),
-            (_, _, Some(name)) => Name(name.into()),
-            _ => self.file.call(word, of),
+        if let Some(&value) = self.known.get(word) {
+            value.clone()
+        } else if let Ok(number) = word.parse() {
+            Number(number)
+        } else if let Some(name) = word.strip_prefix('"') {
+            Name(name.strip_suffix('"').expect("a name's end").into())
+        } else {
+            self.file.call(word, of)
         }
     }
 }
