@@ -4,3 +4,4 @@ pub mod Decimals
 pub mod Lines
 pub mod Rows
 pub mod Output
+pub mod Reading

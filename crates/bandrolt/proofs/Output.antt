@@ -19,7 +19,7 @@ use Rattle.composer.specs.Verdicts.{nameWidth, recipeOf, refusalRows, accepted,
 use Rattle.composer.specs.Printed.{printedOf, printed, inputRoom, outputRoom, programOutput}
 use Rattle.composer.proofs.Verdicts.{unrefused, enough-room, accepts, refusal-counts, written-table, written-length}
 use Rattle.composer.proofs.Lengths.{flat-bytes}
-use Rattle.bandrolt.specs.Text.{Stands}
+use Rattle.bandrolt.specs.Text.{Stands, Lent}
 use Rattle.bandrolt.proofs.Texts.{stands-length}
 
 -- no more bytes are told than were lent
@@ -59,27 +59,28 @@ module _ (input out : List ℕ) {a : Answer} {out′ : List ℕ} (e : a ≡ verd
   pub told-bytes : a .bytes ≡ length (take (a .bytes) out′)
   told-bytes = sym (length-take-le (a .bytes) out′ told-within)
 
-  pub told-room : length out ≡ 65395 → length (take (a .bytes) out′) ≤ 65395
+  pub told-room : length out ≡ outputRoom → length (take (a .bytes) out′) ≤ 65395
+  unfolding outputRoom
   told-room l = omega (arith, told-bytes, ap (λ (x : Answer). x .bytes) e, bytes-within (recipeOf input) (length out))
 
 -- what stands at the start of a text is the text up to its end
 text-is : {xs text text′ : List ℕ} {end : ℕ} → Stands xs text 0 text′ end → take end text′ ≡ xs
 text-is {xs} {text} {text′} {end} s = rw (s .bytes) (take-at xs (drop end text) end (omega arith))
 
--- the whole: the input was read, the output lent, and the text holds what the program writes
-pub output-stands : (input out : List ℕ) {a : Answer} {out′ text text′ : List ℕ} {end : ℕ}
-    → length input ≤ 16385 → length out ≡ 65395 → a ≡ verdict (recipeOf input) (length out) → out′ ≡ written (recipeOf input) out
-    → Stands (printedOf nameWidth a (take (a .bytes) out′)) text 0 text′ end
-    → ((end ≤ length text′) × (end ≡ length (take end text′))) × (take end text′ ≡ programOutput input)
-unfolding programOutput inputRoom outputRoom recipeOf nameWidth
-output-stands input out {a} {out′} {text} {text′} {end} h l e w s =
-    let told = text-is s in
-    let whole : take 16385 input ≡ input = take-all 16385 input h in
-    let all = printed-bytes (recipeOf input) (omega arith) out in (
-      (omega (arith, stands-length s), omega (arith, ap length told)),
-      told ∙ rw (whole, w, e, all, l),
-    )
+-- as many bytes are handed on as were read
+pub read-length : (n : ℕ) (input : List ℕ) → n ≤ length input → n ≡ length (take n input)
+read-length n input h = sym (length-take-le n input h)
 
--- what was read is no longer than what was lent to read it
-pub read-within : (n : ℕ) (xs ys : List ℕ) → length xs ≡ length ys → length ys ≡ 16385 → (n ≤ length xs) × (n ≡ length (take n xs)) → length (take n xs) ≤ 16385
-read-within n xs ys e l c = omega arith
+-- the whole: n bytes were read, the output was lent, and the text holds what the program writes
+pub output-stands : (input : List ℕ) (n : ℕ) (out : List ℕ) {a : Answer} {out′ text text′ : List ℕ} {end : ℕ}
+    → Lent input n out text → a ≡ verdict (recipeOf (take n input)) (length out) → out′ ≡ written (recipeOf (take n input)) out
+    → Stands (printedOf nameWidth a (take (a .bytes) out′)) text 0 text′ end
+    → ((end ≤ length text′) × (end ≡ length (take end text′))) × (take end text′ ≡ programOutput (take n input))
+unfolding programOutput recipeOf nameWidth
+output-stands input n out {a} {out′} {text} {text′} {end} l e w s =
+    let told = text-is s in
+    let whole : take inputRoom (take n input) ≡ take n input = take-all inputRoom (take n input) (omega (arith, read-length n input (omega arith))) in
+    let all = printed-bytes (recipeOf (take n input)) (omega arith) out in (
+      (omega (arith, stands-length s), omega (arith, ap length told)),
+      told ∙ rw (whole, w, e, all, l .room),
+    )

@@ -1,2 +1,3 @@
 -- What the promises of the printing program's functions cite beside the composer's definitions.
 pub mod Text
+pub mod Reading

@@ -13,6 +13,20 @@ ghost use Rattle.flat_table.specs.Table.{flatWidth, flatLength};
 ghost use Rattle.composer.specs.Verdicts.{nameWidth};
 ghost use Rattle.composer.specs.Printed.{characters, decimal, shown, rowLine, tableLines, refusalLine, printedOf, programOutput};
 ghost use Rattle.bandrolt.specs.Text.{Stands, Lent, rowLines};
+ghost use Rattle.bandrolt.specs.Reading.{gotOf, ReadWithin};
+
+// What one read answers: how many bytes more are there, the end of the input, or that it failed.
+pub enum Got {
+    More(usize),
+    End,
+    Failed,
+}
+
+// What reading answers: how many bytes it put at the start of the room, or that a read failed.
+pub enum Input {
+    Read(usize),
+    Failed,
+}
 
 // Puts the bytes into the text at `at`, and answers where they end.
 fn put(bytes: &[u8], text: &mut [u8], at: usize) -> usize
@@ -122,22 +136,59 @@ fn print_answer(a: Answer, table: &[u8], text: &mut [u8]) -> usize
     print_table(a.count, table, text)
 }
 
-// What the program writes of the recipe that it read, with a table lent for flattening.
-fn print_recipe(recipe: &[u8], table: &mut [u8], text: &mut [u8]) -> usize
-    requires { ⌜ Lent (now recipe) (now table) (now text) ⌝ }
-    ensures { λ r. ⌜ Counts r (now (text .exit)) × (take r (now (text .exit)) ≡ programOutput (now (recipe .entry))) ⌝ }
+// What the program writes of the first n bytes of its input, which were read, with a table lent for flattening.
+fn print_recipe(input: &[u8], n: usize, table: &mut [u8], text: &mut [u8]) -> usize
+    requires { ⌜ Lent (now input) n (now table) (now text) ⌝ }
+    ensures { λ r. ⌜ Counts r (now (text .exit)) × (take r (now (text .exit)) ≡ programOutput (take n (now (input .entry)))) ⌝ }
 {
-    let a = composer::flatten(recipe, table);
-    let n = a.bytes as usize;
-    print_answer(a, &table[..n], text)
+    let a = composer::flatten(&input[..n], table);
+    let m = a.bytes as usize;
+    print_answer(a, &table[..m], text)
 }
 
-// Reads at most 16,385 bytes, and lends 65,395 for the table.
+// What a read into the room answered.
+fn judge(got: isize, room: &[u8]) -> Got
+    ensures { λ r. ⌜ r ≡ gotOf got (length (now (room .entry))) ⌝ }
+{
+    if got < 0 {
+        return Got::Failed;
+    }
+    let n = io::count(got, room);
+    if n == 0 {
+        return Got::End;
+    }
+    Got::More(n)
+}
+
+// Reads until the input ends, the room is full or a read fails.
+fn read_input(fd: i32, input: &mut [u8]) -> Input
+    ensures { λ r. ⌜ ReadWithin (length (now (input .entry))) r ⌝ }
+{
+    let mut n = 0;
+    while n < input.len() {
+        let answered = libc::read(fd, &mut input[n..]);
+        let got = judge(answered, &input[n..]);
+        match got {
+            Got::More(more) => n += more,
+            Got::End => return Input::Read(n),
+            Got::Failed => return Input::Failed,
+        }
+    }
+    Input::Read(n)
+}
+
+// Reads at most 16,385 bytes, and lends 65,395 for the table. Where reading failed nothing is written.
 fn main() {
     let mut input = [0u8; 16385];
     let mut table = [0u8; 65395];
     let mut text = [0u8; 67335];
-    let n = io::read_full(STDIN_FILENO, &mut input);
-    let m = print_recipe(&input[..n], &mut table, &mut text);
-    io::write_all(STDOUT_FILENO, &text[..m]);
+    let read = read_input(STDIN_FILENO, &mut input);
+    let Input::Read(n) = read else {
+        os::fail(b"bandrolt: standard input");
+        return;
+    };
+    let m = print_recipe(&input, n, &mut table, &mut text);
+    if !io::write_all(STDOUT_FILENO, &text[..m]) {
+        os::fail(b"bandrolt: standard output");
+    }
 }
