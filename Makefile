@@ -21,10 +21,10 @@ else
 	@tools/try.sh target/recipe target/printed
 endif
 
-# The same with the proved program, which takes some minutes to prove, once.
+# The same with the proved program, which takes some minutes to prove, once. Its status can't say that it failed: standard error does.
 run: $(PROGRAM)
 	@$(CARGO) recipe encode "$(RECIPE)" > target/recipe
-	@$(PROGRAM) < target/recipe
+	@$(PROGRAM) < target/recipe 2> target/run.log && test ! -s target/run.log || { cat target/run.log >&2; exit 1; }
 
 # Checks the flat table of sample R, or the bytes of TABLE=file, as the solver would.
 TABLE = examples/sample-r.table
