@@ -50,7 +50,7 @@ $(ARCHIVES): target/staticlib/lib%.a: target/below
 # All crates below the composer, side by side; rt staticlib would prove them one by one.
 target/below: $(SOURCES) | tools-there
 	@echo "proving the crates below the composer, once: about 4 minutes" >&2
-	@tools/progress.sh target/below.log $(RT) check judging flat_names
+	@tools/progress.sh target/below.log $(RT) check compose flat_names
 	@touch $@
 
 # The printing program.

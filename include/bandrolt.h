@@ -86,7 +86,7 @@ typedef struct bandrolt_answer {
    The call reads the recipe alone, writes within `table` alone, ends on all input, keeps no state and allocates
    nothing. The two must not overlap; each may be null only with length 0. It needs less than
    BANDROLT_FLATTEN_STACK bytes of stack. */
-#define BANDROLT_FLATTEN_STACK 589824
+#define BANDROLT_FLATTEN_STACK 131072
 
 bandrolt_answer bandrolt_flatten(const uint8_t *recipe, size_t length, uint8_t *table, size_t room);
 

@@ -1,5 +1,5 @@
 #!/usr/bin/env python3
-"""Writes crates/composer/proofs/Open.antt: one name that opens every definition, for proofs by computation.
+"""Writes crates/samples/proofs/Open.antt: one name that opens every definition, for proofs by computation.
 
 Run it from the repository's root after a definition was added or renamed in one of the crates below.
 """
@@ -11,8 +11,10 @@ CRATES = {
     "recipe": ["Records", "Definitions", "Reaching", "Reading"],
     "tree": ["Tree", "Faults"],
     "marks": ["Marks", "Faults"],
+    "compose": ["Rows"],
     "flat_names": ["Prefixes"],
-    "composer": ["Flat", "Verdicts", "Printed", "Samples"],
+    "composer": ["Flat", "Verdicts", "Printed"],
+    "samples": ["Samples"],
 }
 # What is defined by a type of the code: no proof by computation meets it.
 LEFT_OUT = {"fieldOf", "optionalOf"}
@@ -29,7 +31,7 @@ def definitions(crate, module):
 
 opened, imports = [], []
 for crate, modules in CRATES.items():
-    path = "Rattle.composer.specs" if crate == "composer" else "Rattle.%s.specs" % crate
+    path = "Rattle.samples.specs" if crate == "samples" else "Rattle.%s.specs" % crate
     for module in modules:
         listed = []
         for name in definitions(crate, module):
@@ -38,6 +40,6 @@ for crate, modules in CRATES.items():
             opened.append(name + "′" if name in opened else name)
         imports.append("use %s.%s.{%s}" % (path, module, ", ".join(listed)))
 
-with open("crates/composer/proofs/Open.antt", "w") as file:
+with open("crates/samples/proofs/Open.antt", "w") as file:
     file.write(HEAD + "\n".join(imports) + "\n\nunfoldable pub open-specs : Unit {0}\nunfolding " + " ".join(opened) + "\nopen-specs = tt\n")
 print(len(opened), "definitions")

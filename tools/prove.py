@@ -6,6 +6,8 @@
   tools/prove.py unused CRATE                      names that a proof or specification imports and does not use; --write drops them
   tools/prove.py take CRATE                        before a change of the code: saves the answers of all proofs, places by name
   tools/prove.py put CRATE FUNCTION..              after it: makes these proofs anew from the saved answers, and says what is new
+  tools/prove.py search CRATE                      tries `search needs` at each need, in one run, and keeps it where it closes the need
+  tools/prove.py short CRATE                       needs that the search closes are answered in the list at a proof's end, and that list is filled to the line
 
 fill(crate, {function: {need: answer}}, {function: uses}) is for a script of one's own: in an answer `c@loop .inv` stands for
 the path from `c` to the record that has the field `loop`, and `c@start` for the record of the function's entry.
@@ -195,6 +197,82 @@ def put(crate, functions):
             file.write(head + "\n\n".join(blocks) + "\n\n" + end)
 
 
+def search(crate):
+    """Answers each need by the search, where that closes it; the others keep their answers."""
+    paths = sorted(glob.glob("crates/%s/proofs/*/Proof.antt" % crate))
+    old = {path: open(path).read() for path in paths}
+
+    def write(path, closes):
+        def answered(m):
+            name, need, invariants, _, arguments, _ = m.groups()
+            return "%s : tie.Need-%s%s\n%s%s = search needs" % (name, need, invariants, name, arguments) if closes(name) else m.group(0)
+
+        text = NEED.sub(answered, old[path])
+        if text != old[path] and "{needs}" not in text:
+            text = re.sub(r"(?m)^use ", "use borrow.Author.Needs.{needs}\nuse ", text, count=1)
+        with open(path, "w") as file:
+            file.write(text)
+
+    for path in paths:
+        write(path, lambda name: True)
+    done = subprocess.run(["rt", "dev", crate], capture_output=True, text=True, env=dict(os.environ, RT_CUT="0"))
+    left = set(re.findall(r"(crates/\S+/Proof\.antt):\d+:\d+: (?:error: )?`(\S+?)`", done.stdout + done.stderr))
+    for path in paths:
+        write(path, lambda name: (path, name) not in left)
+    print(len(left), "needs are not closed by the search")
+
+
+# A need that the search closes, with its answer; in a cycle its head goes over several lines.
+PLAIN = re.compile(r"(?m)^(\S+) : (?:\(\w+ : ℕ\) → )?\S+\.Need-[^\n]*(?:\n  [^\n]*|\n\)[^\n]*)*\n\1(?: [^=\n]*)? = (?:search needs|omega arith)\n\n")
+# The list at the end of a proof. In a cycle it has a head, which ends with the words `NAME.Post`.
+LIST = re.compile(r"(?m)^(\S+-spec =)((?:.|\n)*?(?:(tie\.close\s+\(tie\.spec)|\n    \S+\.Post\n))((?:.|\n)*?)(?(3)\))\s*\Z")
+WIDE = 120
+
+
+def arguments(text):
+    """The arguments of a call, each on one line."""
+    found, depth, word = [], 0, ""
+    for sign in text + " ":
+        depth += (sign in "({") - (sign in ")}")
+        if sign.isspace() and depth == 0:
+            found += [re.sub(r" +", " ", word)] if word else []
+            word = ""
+        else:
+            word += " " if sign.isspace() else sign
+    return found
+
+
+def short_list(text):
+    """The proof with needs that the search closes answered in its list, where it has one."""
+    m = LIST.search(text)
+    if m is None:
+        return text
+    plain = [need.group(1) for need in PLAIN.finditer(text)]
+    names = {need: "(search needs)" for need in plain}
+    names |= {need: "(λ c. search needs)" for need in plain if re.search("returns|holds|again", need)}
+    names |= {need: "(λ c κs. search needs)" for need in plain if "requires" in need}
+    words = [names.get(word.strip("()").split(" ")[0], word) for word in arguments(m.group(4))]
+    head = m.group(2).rstrip()
+    lines = ["%s %s" % (m.group(1), " ".join(head.split())) if "\n)" not in head else m.group(1) + head]
+    for word in words[:-1] + [words[-1] + (")" if m.group(3) else "")]:
+        if len(lines[-1].split("\n")[-1]) + 1 + len(word) > WIDE:
+            lines.append("    " + word)
+        else:
+            lines[-1] += " " + word
+    text = PLAIN.sub("", text[: m.start()]) + "\n".join(lines) + "\n"
+    return text if not plain or "{needs}" in text else re.sub(r"(?m)^use ", "use borrow.Author.Needs.{needs}\nuse ", text, count=1)
+
+
+def short_lists(crate):
+    for path in sorted(glob.glob("crates/%s/proofs/*/Proof.antt" % crate)):
+        old = open(path).read()
+        new = short_list(old)
+        if new != old:
+            print(path, old.count("\n"), "->", new.count("\n"), "lines")
+            with open(path, "w") as file:
+                file.write(new)
+
+
 def fill(crate, answers, uses={}):
     """Fills answers into proofs or skeletons; an answer may be a pair, what it unfolds and the answer."""
     chains = places(crate)
@@ -257,6 +335,10 @@ if __name__ == "__main__":
         take(words[1])
     elif words[:1] == ["put"] and len(words) > 2:
         put(words[1], words[2:])
+    elif words[:1] == ["search"] and len(words) == 2:
+        search(words[1])
+    elif words[:1] == ["short"] and len(words) == 2:
+        short_lists(words[1])
     elif words[:1] == ["unused"] and len(words) == 2:
         unused(words[1], "--write" in sys.argv)
     else:

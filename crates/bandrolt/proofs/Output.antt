@@ -15,7 +15,8 @@ use Rattle.recipe.specs.Records.{Recipe}
 use Rattle.marks.specs.Marks.{survivors}
 use Rattle.composer.specs.declared.Answer.{Answer}
 use Rattle.composer.specs.Flat.{flat}
-use Rattle.composer.specs.Verdicts.{nameWidth, recipeOf, refusalRows, accepted, verdict, written}
+use Rattle.compose.specs.Rows.{refusalRows}
+use Rattle.composer.specs.Verdicts.{nameWidth, recipeOf, accepted, verdict, written}
 use Rattle.composer.specs.Printed.{printedOf, printed, inputRoom, outputRoom, programOutput}
 use Rattle.composer.proofs.Verdicts.{unrefused, enough-room, accepts, refusal-counts, written-table, written-length}
 use Rattle.composer.proofs.Lengths.{flat-bytes}

@@ -16,7 +16,8 @@ use Rattle.recipe.specs.Records.{Recipe}
 use Rattle.marks.specs.Marks.{survivors}
 use Rattle.composer.specs.declared.Answer.{Answer}
 use Rattle.composer.specs.Flat.{flat}
-use Rattle.composer.specs.Verdicts.{Unrefused, nameWidth, recipeOf, accepted, verdict, written}
+use Rattle.compose.specs.Rows.{Unrefused}
+use Rattle.composer.specs.Verdicts.{nameWidth, recipeOf, accepted, verdict, written}
 use Rattle.composer.proofs.Promises.{Promises, promises}
 use Rattle.composer.proofs.Verdicts.{accepts, enough-room, refusal-counts, unrefused, written-length, written-table}
 

@@ -1,40 +1,60 @@
--- The fields of a flat record, from the tables: what is written for an element, its parent, and the end of the chain from its reference.
+-- The fields of a flat record, from the rows: what is written for an element, its parent, and the end of the chain from its reference.
 -- Assumes nothing.
 use Prim.Native.Nat.{_*_, _+_, _-_, _<_, _≤_, ℕ}
+use borrow.Author.Tests.{eq-eqb, ne-eqb}
 use lib.ListN.{getD, length, length-append, replicate, set}
 use lib.Seq.{sets}
+use mathlib.Core.Bool.{false, not}
 use mathlib.Core.List.{List, [], _++_, _∷_}
-use mathlib.Core.Option.{Option, Option·getD, Option·map, none, some}
+use mathlib.Core.Option.{Option, Option·getD, none, some}
 use mathlib.Core.Path.{_∙_, _≡_, ap, refl, sym}
 use native.Mathlib.Numerals.{add-one}
 use native.Mathlib.Omega.{arith}
 use Rattle.names.specs.Lists.{In, padded}
+use Rattle.names.proofs.Lists.{keep-in}
+use Rattle.names.proofs.Stores.{sets-append}
 use Rattle.names.proofs.Tests.{by-option}
-use Rattle.flat_table.specs.Table.{flatLength, flatWidth}
+use Rattle.flat_table.specs.Table.{flatWidth}
 use Rattle.recipe.specs.Definitions.{elementIn, holder}
-use Rattle.recipe.specs.Reading.{fault₅}
-use Rattle.recipe.specs.Records.{Recipe, byte, class, parentField, referenceField}
+use Rattle.recipe.specs.Records.{Recipe, byte, class, parentField}
 use Rattle.recipe.proofs.Definitions.{element-in, in-elements}
 use Rattle.recipe.proofs.Going.{class-low}
-use Rattle.recipe.proofs.Reading.{place-low}
+use Rattle.shadow.proofs.Cells.{row-room as cells-room}
 use Rattle.tree.specs.Numbers.{number}
 use Rattle.tree.specs.Tree.{Node, instances, node, parentOf, referenceOf, treeElements}
 use Rattle.tree.proofs.Nodes.{node-eq, parent-in, reference-in}
 use Rattle.tree.proofs.Resolving.{not-zero}
-use Rattle.names.proofs.Stores.{sets-append}
-use Rattle.marks.specs.Marks.{chainEnd}
-use Rattle.marks.specs.Steps.{EndsAt, Numbers}
+use Rattle.marks.specs.Composed.{endOf}
+use Rattle.marks.specs.Marks.{chainEnd, isGone, survivors}
 use Rattle.marks.proofs.Chain.{chain-in}
+use Rattle.marks.proofs.Elements.{element-held}
 use Rattle.flat_names.specs.Prefixes.{flatName}
 use Rattle.composer.specs.Flat.{flatField, flatRecord, flatReference}
-use Rattle.composer.specs.Writing.{Named, ParentsAre, Referring, elementAt}
+use Rattle.composer.specs.Writing.{SiteAt, SiteInTree, WriterRequires, elementAt, siteOf}
 use Rattle.composer.proofs.ByNumber as by
 use Rattle.composer.proofs.Lengths.{name-field, parent-field}
 
--- a blank field is zeros
-blank-field : (s : Recipe) (n : ℕ) → n ≡ 5 * s .width + 8 → replicate n 0 ≡ flatField s none
-unfolding flatField padded flatWidth
-blank-field s n h = let e : n ≡ 5 * s .width + 8 - 0 = omega arith in ap (λ (k : ℕ). replicate k 0) e
+-- ---- a field by its site
+module _ (s : Recipe) (i m : ℕ) where
+  no-site : m ≡ 0 → siteOf s i m ≡ none
+  unfolding siteOf
+  no-site z = rw (eq-eqb m 0 z)
+
+  a-site : (m ≡ 0 → ⊥) → siteOf s i m ≡ some (node (getD (instances s) i []) m)
+  unfolding siteOf
+  a-site z = rw (ne-eqb m 0 z)
+
+  -- a blank is zeros
+  pub blank-written : {n : ℕ} (out : List ℕ) (at : ℕ) {out′ : List ℕ} → m ≡ 0 → n ≡ flatWidth (s .width) → out′ ≡ sets out at (replicate n 0) → out′ ≡ sets out at (flatField s (siteOf s i m))
+  unfolding flatField padded flatWidth
+  blank-written {n} out at z h o =
+      let e : n ≡ flatWidth (s .width) - 0 = omega arith in
+      o ∙ ap (λ (k : ℕ). sets out at (replicate k 0)) e ∙ ap (λ (y : Option Node). sets out at (flatField s y)) (sym (no-site z))
+
+  pub name-written : (out : List ℕ) (at : ℕ) {out′ : List ℕ} → (m ≡ 0 → ⊥)
+      → out′ ≡ sets out at (padded (flatWidth (s .width)) (flatName s (node (getD (instances s) i []) m))) → out′ ≡ sets out at (flatField s (siteOf s i m))
+  unfolding flatField
+  name-written out at z o = o ∙ ap (λ (y : Option Node). sets out at (flatField s y)) (sym (a-site z))
 
 -- a kind byte and three fields, stored one behind the other, are a record
 four-stores : (out A B C : List ℕ) (at k f : ℕ) → length A ≡ f → length B ≡ f
@@ -47,188 +67,150 @@ four-stores out A B C at k f a b =
     ∙ sym (sets-append (A ++ B) o (at + 1) C)
     ∙ rw (add-one at) refl
 
--- the room for them
-pub record-room : (w at n : ℕ) → at + flatLength w ≤ n → at + 1 + (5 * w + 8) + (5 * w + 8) + flatWidth w ≤ n
-unfolding flatLength flatWidth
-record-room w at n h = omega arith
+-- ---- the element of number e, a survivor
+module _ {s : Recipe} {t el pre len : List ℕ} {elems : ℕ} (W : WriterRequires s t el pre len elems) where
+  -- what a row says of the element of number k
+  module _ (k : ℕ) (l : k < length (treeElements s)) where
+    at-number : (j : ℕ) → getD el (5 * number s (elementAt s k) + j) 0 ≡ getD el (5 * k + j) 0
+    at-number j = ap (λ (n : ℕ). getD el (5 * n + j) 0) (by.element-number s (W .fates .row₇) k l)
 
--- ---- what a field of an element names
-module _ (s : Recipe) (e : ℕ) (f : List ℕ) (m : ℕ) (h : m ≡ Option·getD (elementIn s e f) 0) where
-  no-link : m ≡ 0 → elementIn s e f ≡ none
-  no-link z =
-      by-option (elementIn s e f)
-      (λ n. n)
-      (λ k n.
-      let r = in-elements s (holder s e) k (element-in s e f k n .2) .inside in
-      absurd (not-zero s (holder s e) k r (sym (h ∙ ap (λ (o : Option ℕ). Option·getD o 0) n) ∙ z)))
+    k-tree : In (elementAt s k) (treeElements s)
+    k-tree = by.element-in s (W .fates .row₇) k l
 
-  a-link : (m ≡ 0 → ⊥) → elementIn s e f ≡ some m
-  a-link z =
-      by-option (elementIn s e f)
-      (λ n. absurd (z (h ∙ ap (λ (o : Option ℕ). Option·getD o 0) n)))
-      (λ k n. n ∙ ap some (sym (h ∙ ap (λ (o : Option ℕ). Option·getD o 0) n)))
+    pub row-room : 5 * k + 5 ≤ length el
+    row-room = omega (arith, W .elements .room)
 
--- ---- the element of number e
-module _ (s : Recipe) (place within pre len : List ℕ) (N : Named s place within pre len) (e : ℕ) (l : e < length (treeElements s)) where
-  abbrev x : Node
-  x = elementAt s e
+    pub record-is : {q : ℕ} → q ≡ getD el (5 * k + 0) 0 → q ≡ elementAt s k .place
+    record-is h = h ∙ sym (at-number 0) ∙ W .elements .records (elementAt s k) k-tree
 
-  x-tree : In x (treeElements s)
-  x-tree = by.element-in s (N .naming .small) e l
+    pub instance-low : {i : ℕ} → i ≡ getD el (5 * k + 1) 0 → i < length (instances s)
+    instance-low {i} h = omega (arith, h, at-number 1, W .elements .within (elementAt s k) k-tree)
 
-  x-number : number s x ≡ e
-  x-number = by.element-number s (N .naming .small) e l
+    path-is : {i : ℕ} → i ≡ getD el (5 * k + 1) 0 → getD (instances s) i [] ≡ elementAt s k .path
+    path-is {i} h = ap (λ (j : ℕ). getD (instances s) j []) (h ∙ sym (at-number 1)) ∙ W .elements .paths (elementAt s k) k-tree
 
-  pub number-low : e < 1024
-  number-low = by.element-few s (N .naming .small) e l
+    site-is : {i q : ℕ} → i ≡ getD el (5 * k + 1) 0 → q ≡ getD el (5 * k + 0) 0 → node (getD (instances s) i []) q ≡ elementAt s k
+    unfolding node
+    site-is h r = node-eq (path-is h) (record-is r)
 
-  pub instance-low : {i : ℕ} → i ≡ getD within e 0 → i < length (instances s)
-  instance-low {i} h = omega (arith, h, ap (λ (k : ℕ). getD within k 0) x-number, N .elements .few x x-tree)
+    some-record : {q : ℕ} → q ≡ getD el (5 * k + 0) 0 → q ≡ 0 → ⊥
+    some-record {q} r z =
+        let h = element-held s (elementAt s k) k-tree in
+        not-zero s _ (elementAt s k .place) (h .inside) (sym (record-is r) ∙ z)
 
-  path-is : {i : ℕ} → i ≡ getD within e 0 → getD (instances s) i [] ≡ x .path
-  path-is {i} h =
-      ap (λ (k : ℕ). getD (instances s) k []) (h ∙ ap (λ (k : ℕ). getD within k 0) (sym x-number)) ∙ N .elements .paths x x-tree
+    -- its own site
+    pub own-site : {i q : ℕ} → i ≡ getD el (5 * k + 1) 0 → q ≡ getD el (5 * k + 0) 0 → siteOf s i q ≡ some (elementAt s k)
+    own-site {i} {q} h r = a-site s i q (some-record r) ∙ ap some (site-is h r)
 
-  here : {i : ℕ} (m : ℕ) → i ≡ getD within e 0 → node (getD (instances s) i []) m ≡ node (x .path) m
-  here {i} m h = ap (λ (p : List ℕ). node p m) (path-is h)
+    pub own-tree : {i q : ℕ} → i ≡ getD el (5 * k + 1) 0 → q ≡ getD el (5 * k + 0) 0 → SiteInTree s i q
+    own-tree h r z = (instance-low h, rw (site-is h r) k-tree)
 
-  place-is : {q : ℕ} → q ≡ getD place e 0 → q ≡ x .place
-  place-is h = h ∙ by.place-is s (N .naming .small) place (N .elements .places) e l
+  -- ---- the element of number e, a survivor: its parent, and the end of the chain from its reference
+  module _ {e : ℕ} (le : e < length (treeElements s)) where
+    abbrev x : Node
+    x = elementAt s e
 
-  pub place-short : {q : ℕ} → q ≡ getD place e 0 → q < 16384
-  place-short {q} h = omega (arith, place-is h, place-low s (x .place) (by.element-held s (N .naming .small) x x-tree .placed), N .naming .short)
+    module _ {q : ℕ} (hq : q ≡ getD el (5 * e + 0) 0) where
+      pub parent-room : q + 3 < length t
+      parent-room = omega (arith, record-is e le hq, cells-room (W .shadowed) (x .place) (element-held s x (k-tree e le) .placed))
 
-  -- its class
-  pub class-inside : {q : ℕ} → q ≡ getD place e 0 → q + 1 + s .width < length (s .bytes)
-  class-inside {q} h =
-      let k = by.element-held s (N .naming .small) x x-tree in
-      rw (place-is h) (class-low s (x .place) (k .placed) (k .passes))
+      -- its class
+      pub class-inside : q + 1 + s .width < length (s .bytes)
+      class-inside =
+          let h = element-held s x (k-tree e le) in
+          rw (record-is e le hq) (class-low s (x .place) (h .placed) (h .passes))
 
-  class-is : {q : ℕ} → q ≡ getD place e 0 → getD (s .bytes) (q + 1 + s .width) 0 ≡ class s (x .place)
-  unfolding class byte
-  class-is {q} h = ap (λ (k : ℕ). getD (s .bytes) (k + 1 + s .width) 0) (place-is h)
+      class-is : getD (s .bytes) (q + 1 + s .width) 0 ≡ class s (x .place)
+      unfolding class byte
+      class-is = ap (λ (k : ℕ). getD (s .bytes) (k + 1 + s .width) 0) (record-is e le hq)
 
-  -- its name
-  own : {i q : ℕ} → i ≡ getD within e 0 → q ≡ getD place e 0 → node (getD (instances s) i []) q ≡ x
-  unfolding node
-  own {i} {q} h k = node-eq (path-is h) (place-is k)
+      -- its parent
+      module _ {i m : ℕ} (hi : i ≡ getD el (5 * e + 1) 0) (hm : m ≡ getD t (q + 3) 0) where
+        parent-link : m ≡ Option·getD (elementIn s (x .place) (parentField s (x .place))) 0
+        parent-link =
+            let h = element-held s x (k-tree e le) in
+            hm ∙ ap (λ (j : ℕ). getD t (j + 3) 0) (record-is e le hq) ∙ W .parents (x .place) (h .placed) (h .passes)
 
-  pub own-tree : {i q : ℕ} → i ≡ getD within e 0 → q ≡ getD place e 0 → In (node (getD (instances s) i []) q) (treeElements s)
-  own-tree h k = rw (own h k) x-tree
+        pub parent-site : siteOf s i m ≡ parentOf s x
+        unfolding parentOf
+        parent-site =
+            by-option (elementIn s (x .place) (parentField s (x .place)))
+            (λ n. no-site s i m (parent-link ∙ rw n) ∙ rw n)
+            (λ k n.
+            let is : m ≡ k = parent-link ∙ rw n in
+            let in-k = in-elements s (holder s (x .place)) k (element-in s (x .place) (parentField s (x .place)) k n .2) .inside in
+            a-site s i m (λ z. not-zero s (holder s (x .place)) k in-k (sym is ∙ z))
+            ∙ rw (n, is) (ap (λ (p : List ℕ). some (node p k)) (path-is e le hi)))
 
-  pub own-written : {i q : ℕ} (out : List ℕ) (at : ℕ) {out′ : List ℕ} → i ≡ getD within e 0 → q ≡ getD place e 0
-      → out′ ≡ sets out at (padded (flatWidth (s .width)) (flatName s (node (getD (instances s) i []) q))) → out′ ≡ sets out at (flatField s (some x))
-  unfolding flatField
-  own-written {i} {q} out at h k o = o ∙ ap (λ (y : Node). sets out at (padded (flatWidth (s .width)) (flatName s y))) (own h k)
+        pub parent-tree : SiteInTree s i m
+        parent-tree z = (instance-low e le hi, parent-in s x (node (getD (instances s) i []) m) (k-tree e le) (sym parent-site ∙ a-site s i m z))
 
-  -- ---- its parent
-  module _ (par : List ℕ) (P : ParentsAre s par) {q m : ℕ} (hq : q ≡ getD place e 0) (hm : m ≡ getD par q 0) where
-    parent-link : m ≡ Option·getD (elementIn s (x .place) (parentField s (x .place))) 0
-    parent-link =
-        let k = by.element-held s (N .naming .small) x x-tree in
-        hm ∙ ap (λ (j : ℕ). getD par j 0) (place-is hq) ∙ P (x .place) (k .placed) (k .passes)
+    -- the end of the chain from its reference
+    module _ (alive : isGone s x ≡ false) where
+      x-survives : In x (survivors s)
+      unfolding survivors
+      x-survives = keep-in (λ y. not (isGone s y)) (treeElements s) x (k-tree e le) (ap not alive)
 
-    no-parent : m ≡ 0 → parentOf s x ≡ none
-    unfolding parentOf
-    no-parent z = ap (Option·map (node (x .path))) (no-link s (x .place) (parentField s (x .place)) m parent-link z)
+      end-is : getD el (5 * e + 4) 0 ≡ endOf s x
+      end-is = sym (at-number e le 4) ∙ W .ends x x-survives
 
-    a-parent : (m ≡ 0 → ⊥) → parentOf s x ≡ some (node (x .path) m)
-    unfolding parentOf
-    a-parent z = ap (Option·map (node (x .path))) (a-link s (x .place) (parentField s (x .place)) m parent-link z)
+      -- none, or the element whose number is one less
+      end-cases : {P : Type 0} → (endOf s x ≡ 0 → flatReference s x ≡ none → P)
+          → ((k : ℕ) → k < length (treeElements s) → endOf s x ≡ k + 1 → flatReference s x ≡ some (elementAt s k) → P) → P
+      unfolding endOf flatReference chainEnd
+      end-cases f g =
+          by-option (referenceOf s x)
+          (λ n. f (rw (n, endOf)) (rw n))
+          (λ y n.
+          let in-end = chain-in s (W .row₅) (W .fates .row₇) 5 y (reference-in s x y (k-tree e le) n) in
+          let is = by.element-is s (W .fates .row₇) (chainEnd s y) in-end in
+          g (number s (chainEnd s y)) (is .0) (rw (n, endOf)) (rw n (ap some (sym (is .1)))))
 
-    pub parent-blank : {n : ℕ} (out : List ℕ) (at : ℕ) {out′ : List ℕ} → m ≡ 0 → n ≡ 5 * s .width + 8 → out′ ≡ sets out at (replicate n 0) → out′ ≡ sets out at (flatField s (parentOf s x))
-    parent-blank {n} out at z h o = o ∙ ap (sets out at) (blank-field s n h ∙ ap (flatField s) (sym (no-parent z)))
+      pub end-room : 5 * getD el (5 * e + 4) 0 ≤ length el
+      end-room = end-cases (λ z n. omega (arith, end-is)) (λ k l z n. omega (arith, end-is, row-room k l))
 
-    pub parent-tree : {i : ℕ} → i ≡ getD within e 0 → (m ≡ 0 → ⊥) → In (node (getD (instances s) i []) m) (treeElements s)
-    parent-tree h z = rw (here m h) (parent-in s x (node (x .path) m) x-tree (a-parent z))
+      module _ {i m : ℕ} (at : SiteAt el (getD el (5 * e + 4) 0) i m) where
+        before-end : (k : ℕ) → endOf s x ≡ k + 1 → getD el (5 * e + 4) 0 - 1 ≡ k
+        before-end k z = omega (arith, end-is)
 
-    pub parent-written : {i : ℕ} (out : List ℕ) (at : ℕ) {out′ : List ℕ} → i ≡ getD within e 0 → (m ≡ 0 → ⊥)
-        → out′ ≡ sets out at (padded (flatWidth (s .width)) (flatName s (node (getD (instances s) i []) m))) → out′ ≡ sets out at (flatField s (parentOf s x))
-    unfolding flatField
-    parent-written {i} out at h z o =
-        o
-        ∙ ap (λ (y : Node). sets out at (padded (flatWidth (s .width)) (flatName s y))) (here m h)
-        ∙ ap (λ (y : Option Node). sets out at (flatField s y)) (sym (a-parent z))
+        filled : (k : ℕ) → endOf s x ≡ k + 1 → getD el (5 * e + 4) 0 ≡ 0 → ⊥
+        filled k z n = omega (arith, end-is)
 
-  -- ---- the end of the chain from its reference
-  module _ (ord refs go : List ℕ) (R : Referring s ord refs go) {q m : ℕ} (hq : q ≡ getD place e 0) (hm : m ≡ getD refs q 0) where
-    reference-link : m ≡ Option·getD (elementIn s (x .place) (referenceField s (x .place))) 0
-    reference-link =
-        let k = by.element-held s (N .naming .small) x x-tree in
-        hm ∙ ap (λ (j : ℕ). getD refs j 0) (place-is hq) ∙ R .references (x .place) (k .placed) (k .passes)
+        within-is : (k : ℕ) → endOf s x ≡ k + 1 → i ≡ getD el (5 * k + 1) 0
+        within-is k z = at .within (filled k z) ∙ ap (λ (j : ℕ). getD el (5 * j + 1) 0) (before-end k z)
 
-    no-reference : m ≡ 0 → flatReference s x ≡ none
-    unfolding flatReference referenceOf
-    no-reference z =
-        ap (λ (o : Option ℕ). Option·map (chainEnd s) (Option·map (node (x .path)) o)) (no-link s (x .place) (referenceField s (x .place)) m reference-link z)
+        at-record : (k : ℕ) → endOf s x ≡ k + 1 → m ≡ getD el (5 * k + 0) 0
+        at-record k z = at .records (filled k z) ∙ ap (λ (j : ℕ). getD el (5 * j + 0) 0) (before-end k z)
 
-    pub reference-blank : {n : ℕ} (out : List ℕ) (at : ℕ) {out′ : List ℕ} → m ≡ 0 → n ≡ 5 * s .width + 8 → out′ ≡ sets out at (replicate n 0) → out′ ≡ sets out at (flatField s (flatReference s x))
-    reference-blank {n} out at z h o = o ∙ ap (sets out at) (blank-field s n h ∙ ap (flatField s) (sym (no-reference z)))
+        pub reference-site : siteOf s i m ≡ flatReference s x
+        reference-site =
+            end-cases
+            (λ z n. no-site s i m (at .blank (end-is ∙ z)) ∙ sym n)
+            (λ k l z n. own-site k l (within-is k z) (at-record k z) ∙ sym n)
 
-    module _ (z : m ≡ 0 → ⊥) where
-      abbrev y : Node
-      y = node (x .path) m
+        pub reference-tree : SiteInTree s i m
+        reference-tree =
+            end-cases
+            (λ z n. λ f. absurd (f (at .blank (end-is ∙ z))))
+            (λ k l z n. own-tree k l (within-is k z) (at-record k z))
 
-      a-reference : referenceOf s x ≡ some y
-      unfolding referenceOf
-      a-reference = ap (Option·map (node (x .path))) (a-link s (x .place) (referenceField s (x .place)) m reference-link z)
-
-      y-tree : In y (treeElements s)
-      y-tree = reference-in s x y x-tree a-reference
-
-      pub referred-short : m < 16384
-      unfolding node
-      referred-short = omega (arith, place-low s m (by.element-held s (N .naming .small) y y-tree .placed), N .naming .short)
-
-      pub order-below : getD ord q 0 ≤ e
-      order-below =
-          omega (arith, ap (λ (k : ℕ). getD ord k 0) (place-is hq), by.order-fits s (N .naming .small) ord (R .orders) x x-tree, x-number)
-
-      module _ {r : ℕ} (hr : r ≡ e - getD ord q 0 + getD ord m 0) where
-        y-number : number s y ≡ r
-        unfolding node
-        y-number =
-            omega (arith, hr, ap (λ (k : ℕ). getD ord k 0) (place-is hq), by.sibling-number s (N .naming .small) ord (R .orders) x y x-tree y-tree refl, x-number)
-
-        pub referred : Numbers s r
-        referred = (y, y-tree, y-number)
-
-        pub referred-low : r < length (treeElements s)
-        referred-low = omega (arith, y-number, by.element-is s (N .naming .small) y y-tree .0)
-
-        module _ {t : ℕ} (ht : EndsAt s r t) where
-          end-tree : In (chainEnd s y) (treeElements s)
-          unfolding chainEnd
-          end-tree = chain-in s (R .declared) (N .naming .small) 5 y y-tree
-
-          end-is : t ≡ number s (chainEnd s y)
-          end-is = ht y y-tree y-number
-
-          pub end-low : t < length (treeElements s)
-          end-low = omega (arith, end-is, by.element-is s (N .naming .small) (chainEnd s y) end-tree .0)
-
-          pub reference-written : (out : List ℕ) (at : ℕ) {out′ : List ℕ} → out′ ≡ sets out at (flatField s (some (elementAt s t))) → out′ ≡ sets out at (flatField s (flatReference s x))
-          unfolding flatReference
-          reference-written out at o =
-              o
-              ∙ ap (λ (k : Node). sets out at (flatField s (some k))) (ap (elementAt s) end-is ∙ by.element-is s (N .naming .small) (chainEnd s y) end-tree .1)
-              ∙ ap (λ (k : Option Node). sets out at (flatField s (Option·map (chainEnd s) k))) (sym a-reference)
-
-  -- ---- its record
-  pub record-written : (h₅ : fault₅ s ≡ none) {q f : ℕ} (out : List ℕ) (at : ℕ) {out₁ out₂ out₃ : List ℕ} → q ≡ getD place e 0 → f ≡ 5 * s .width + 8
-      → out₁ ≡ sets (set out at (getD (s .bytes) (q + 1 + s .width) 0)) (at + 1) (flatField s (some x))
-      → out₂ ≡ sets out₁ (at + 1 + f) (flatField s (parentOf s x))
-      → out₃ ≡ sets out₂ (at + 1 + f + f) (flatField s (flatReference s x))
-      → out₃ ≡ sets out at (flatRecord s x)
-  unfolding flatRecord flatWidth
-  record-written h₅ {q} {f} out at hq hf a b c =
-      let two : 2 ≤ s .width = omega (arith, N .naming .wide) in
-      let A = flatField s (some x) in
-      let B = flatField s (parentOf s x) in
-      let C = flatField s (flatReference s x) in
-      let la : length A ≡ f = name-field s two (N .naming .formed) (N .naming .small) h₅ x x-tree ∙ sym hf in
-      let lb : length B ≡ f = parent-field s two (N .naming .formed) (N .naming .small) h₅ x x-tree ∙ sym hf in
-      c
-      ∙ ap (λ (o : List ℕ). sets o (at + 1 + f + f) C) (b ∙ ap (λ (o : List ℕ). sets o (at + 1 + f) B) a)
-      ∙ four-stores out A B C at (getD (s .bytes) (q + 1 + s .width) 0) f la lb
-      ∙ ap (λ (k : ℕ). sets out at (k ∷ (A ++ B ++ C))) (class-is hq)
+    -- ---- its record
+    pub record-written : {q f : ℕ} (out : List ℕ) (at : ℕ) {out₁ out₂ out₃ : List ℕ} {a b c : Option Node} → q ≡ getD el (5 * e + 0) 0 → f ≡ flatWidth (s .width)
+        → a ≡ some x → b ≡ parentOf s x → c ≡ flatReference s x
+        → out₁ ≡ sets (set out at (getD (s .bytes) (q + 1 + s .width) 0)) (at + 1) (flatField s a)
+        → out₂ ≡ sets out₁ (at + 1 + f) (flatField s b)
+        → out₃ ≡ sets out₂ (at + 1 + f + f) (flatField s c)
+        → out₃ ≡ sets out at (flatRecord s x)
+    unfolding flatRecord flatWidth
+    record-written {q} {f} out at {out₁} {out₂} {out₃} hq hf ha hb hc o₁ o₂ o₃ =
+        let two : 2 ≤ s .width = omega (arith, W .naming .wide) in
+        let A = flatField s (some x) in
+        let B = flatField s (parentOf s x) in
+        let C = flatField s (flatReference s x) in
+        let la : length A ≡ f = name-field s two (W .naming .formed) (W .fates .row₇) (W .row₅) x (k-tree e le) ∙ sym hf in
+        let lb : length B ≡ f = parent-field s two (W .naming .formed) (W .fates .row₇) (W .row₅) x (k-tree e le) ∙ sym hf in
+        o₃
+        ∙ ap (λ (y : Option Node). sets out₂ (at + 1 + f + f) (flatField s y)) hc
+        ∙ ap (λ (o : List ℕ). sets o (at + 1 + f + f) C) (o₂ ∙ ap (λ (y : Option Node). sets out₁ (at + 1 + f) (flatField s y)) hb ∙ ap (λ (o : List ℕ). sets o (at + 1 + f) B) (o₁ ∙ ap (λ (y : Option Node). sets (set out at (getD (s .bytes) (q + 1 + s .width) 0)) (at + 1) (flatField s y)) ha))
+        ∙ four-stores out A B C at (getD (s .bytes) (q + 1 + s .width) 0) f la lb
+        ∙ ap (λ (k : ℕ). sets out at (k ∷ (A ++ B ++ C))) (class-is hq)

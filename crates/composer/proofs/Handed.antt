@@ -1,71 +1,57 @@
--- What judging hands on is what the room and the writer ask.
+-- What composing hands on is what the room and the writer ask.
 -- Assumes nothing.
-use Prim.Native.Nat.{ℕ, _+_, _*_, _≤_}
+use Prim.Native.Nat.{ℕ, _*_, _≤_}
 use native.Mathlib.Omega.{arith}
 use native.Mathlib.Nat.{mul-le-mul}
 use mathlib.Core.Path.{_≡_}
 use mathlib.Core.Bool.{not}
-use mathlib.Core.List.{List, _++_}
+use mathlib.Core.List.{List}
 use lib.ListN.{length}
-use Rattle.names.specs.Judging.{NoneApplies}
-use Rattle.names.proofs.Judging.{none-join}
 use Rattle.names.proofs.Lists.{keep-length}
+use Rattle.flat_table.specs.Table.{flatLength, flatWidth}
 use Rattle.recipe.specs.Records.{Recipe}
-use Rattle.recipe.specs.Reading.{formRows, namingRows}
-use Rattle.reading.specs.Tables.{Tables}
-use Rattle.tree.specs.Faults.{treeRows, targetRows}
 use Rattle.tree.specs.Tree.{treeElements}
-use Rattle.marks.specs.Faults.{markRows, referenceRows}
+use Rattle.marks.specs.Composed.{Composed}
 use Rattle.marks.specs.Marks.{isGone, survivors}
-use Rattle.flat_names.specs.Rows.{Prefixed}
-use Rattle.judging.specs.Handed.{Composed}
-use Rattle.judging.proofs.Handing.{models-are, references-are}
-use Rattle.composer.specs.Writing.{Judged, Writing}
-use Rattle.composer.proofs.ByNumber.{elements-few}
+use Rattle.flat_names.specs.Rows.{Prefixed, rowWidth}
+use Rattle.flat_names.proofs.Puts.{rows-room}
+use Rattle.composer.specs.Writing.{FatesRequires, WriterRequires}
+use Rattle.marks.proofs.Elements.{elements-few}
 
--- rows 1 to 6 do not apply
-pub read-passes : {s : Recipe} {hold model height own sub par refs nxt : List ℕ} → Tables s hold model height own sub par refs nxt → NoneApplies (formRows s ++ namingRows s)
-read-passes T = (T .row₁, (T .row₂, (T .row₃, (T .row₄, (T .row₅, (T .row₆, tt))))))
+module _ {s : Recipe} {t inst el : List ℕ} {insts elems : ℕ} (C : Composed s t inst el insts elems) where
+  pub fates : FatesRequires s el elems
+  fates = record { row₇ = C .targeted .planted .row₇; count = C .count; room = C .elements .room; gones = C .gones }
 
--- nor do rows 7 to 12
-pub judged-is : {s : Recipe} {hold model height own sub par refs nxt ord inst place within cells go : List ℕ} {insts elems : ℕ}
-    → Composed s hold model height own sub par refs nxt ord inst place within cells go insts elems
-    → Judged s hold model par refs ord inst place within cells go insts elems
-judged-is {s} C =
-    let T = C .tables in
-    record {
-      unrefused =
-          none-join (formRows s ++ namingRows s) (treeRows s ++ (targetRows s ++ (markRows s ++ referenceRows s))) (read-passes T)
-          (C .row₇, (C .row₈, (C .row₉, (C .row₁₀, (C .row₁₁, (C .row₁₂, tt))))));
-      naming = record { wide = T .wide; narrow = T .narrow; short = T .short; whole = T .whole; formed = T .row₃; small = C .row₇ };
-      tables = record { holds = T .holds; models = models-are _ _ _ _ _ _ _ _ _ T };
-      tree = C .instances-are;
-      elements = C .elements-are;
-      marked = C .marked;
-      references = references-are _ _ _ _ _ _ _ _ _ T;
-      steps = C .steps;
-      count = C .count;
-    }
+  pub writer : (pre len : List ℕ) → Prefixed s pre len → WriterRequires s t el pre len elems
+  writer pre len f =
+      let P = C .targeted .planted in
+      let L = P .measured .linked in
+      let S = L .numbered .shadowed in
+      record {
+        naming = record { wide = S .wide; narrow = S .narrow; short = S .short; whole = S .whole; formed = L .row₃; small = P .row₇ };
+        row₅ = L .row₅;
+        shadowed = S;
+        parents = L .parents;
+        fates = fates;
+        elements = C .elements;
+        ends = C .ends;
+        prefixes = f;
+      }
 
-module _ {s : Recipe} {hold model par refs ord inst place within cells go : List ℕ} {insts elems : ℕ}
-    (J : Judged s hold model par refs ord inst place within cells go insts elems) where
-  pub writing-is : (pre len : List ℕ) → Prefixed s pre len → Writing s cells ord par refs go place within pre len elems
-  writing-is pre len f = record {
-    marked = J .marked;
-    named = record { naming = J .naming; elements = J .elements; prefixes = f };
-    references = J .references;
-    steps = J .steps;
-    count = J .count;
-  }
+  pub narrow : s .width ≤ 64
+  narrow = C .targeted .planted .measured .linked .numbered .shadowed .narrow
 
-  -- the survivors are no more than the tree's elements, which are few
-  pub survivors-few : length (survivors s) ≤ 1024
-  unfolding survivors
-  survivors-few = omega (arith, keep-length (λ x. not (isGone s x)) (treeElements s), elements-few s (J .naming .small))
+  -- the rows of the prefixes have room
+  pub prefix-room : {n : ℕ} → n ≡ 16896 → insts * rowWidth (s .width) ≤ n
+  prefix-room h = omega (arith, h, rows-room insts (s .width) (C .targeted .planted .rows .few) narrow)
 
-  -- so their bytes are, too
-  pub bytes-few : (k : ℕ) → k ≡ length (survivors s) → k * (15 * s .width + 25) ≤ 1024 * 985
-  bytes-few k e =
-      let few : k ≤ 1024 = omega (arith, survivors-few) in
-      let short : 15 * s .width + 25 ≤ 985 = omega (arith, J .naming .narrow) in
+  pub instances-room : {n : ℕ} → n ≡ 64 → insts ≤ n
+  instances-room h = omega (arith, h, C .targeted .planted .rows .few)
+
+  -- the survivors are no more than the tree's elements, which are few, and so are their bytes
+  pub bytes-few : {k row : ℕ} → k ≡ length (survivors s) → row ≡ flatLength (s .width) → k * row ≤ 1024 * 985
+  unfolding survivors flatLength flatWidth
+  bytes-few {k} {row} e r =
+      let few : k ≤ 1024 = omega (arith, keep-length (λ x. not (isGone s x)) (treeElements s), elements-few s (C .targeted .planted .row₇)) in
+      let short : row ≤ 985 = omega (arith, r, narrow) in
       mul-le-mul few short

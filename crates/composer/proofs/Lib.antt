@@ -1,8 +1,6 @@
--- The laws of flattening, and 01's samples shown of the definitions. `Promises` has demand 3 at a glance, `Demand` says it of the call.
+-- The laws of flattening. `Promises` has demand 3 at a glance, `Demand` says it of the call.
 pub mod Promises
 pub mod Demand
-pub mod Open
-pub mod Starred
 pub mod Lengths
 pub mod Characters
 pub mod Table
@@ -11,5 +9,6 @@ pub mod Printed
 pub mod ByNumber
 pub mod Fields
 pub mod Writing
+pub mod Room
 pub mod Joining
 pub mod Handed

@@ -22,7 +22,7 @@ use Rattle.flat_names.specs.Prefixes.{declaredNames, prefix}
 use Rattle.flat_names.proofs.OneName.{free-prefix, free-prefix-inside}
 use Rattle.composer.specs.Flat.{flat}
 use Rattle.composer.specs.FlatRecords.{recordPlaces, nameAt, parentAt, referenceAt, RecordOf, ParentNamed, ReferenceNamed, Ended}
-use Rattle.composer.specs.Verdicts.{refusalRows, Unrefused}
+use Rattle.compose.specs.Rows.{refusalRows, Unrefused}
 use Rattle.composer.proofs.Lengths.{flat-bytes}
 use Rattle.composer.proofs.Table.{record-count, records, reference-ended, one-record, parent-named, reference-named, table-closed, table-accepted}
 

@@ -19,7 +19,8 @@ use Rattle.recipe.proofs.Rows.{not-at-start}
 use Rattle.marks.specs.Marks.{survivors}
 use Rattle.composer.specs.declared.Answer.{Answer}
 use Rattle.composer.specs.Flat.{flat}
-use Rattle.composer.specs.Verdicts.{refusalRows, refusalOf, Unrefused, fault₁₃, accepted, refused, refusedOr, verdict, written}
+use Rattle.compose.specs.Rows.{refusalRows, refusalOf, Unrefused}
+use Rattle.composer.specs.Verdicts.{fault₁₃, accepted, refused, refusedOr, verdict, written}
 use Rattle.composer.proofs.Lengths.{flat-bytes}
 
 module _ (s : Recipe) where

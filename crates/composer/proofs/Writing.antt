@@ -3,22 +3,22 @@
 use Prim.Native.Nat.{_*_, _+_, _<_, _≤_, suc, ℕ}
 use lib.ListN.{drop, drop-of-length-le, getD, length, length-append}
 use lib.Seq.{drop-cons, length-sets, sets, sets-eq}
-use mathlib.Core.Bool.{Bool, false, not, true}
+use mathlib.Core.Bool.{Bool, cond, false, not, true}
 use mathlib.Core.List.{List, [], _++_, _∷_, map}
 use mathlib.Core.Path.{_∙_, _≡_, ap, refl, sym}
 use native.Mathlib.Nat.{zero-add}
 use native.Mathlib.Numerals.{add-one}
 use native.Mathlib.Omega.{arith}
 use Rattle.names.specs.Lists.{joined, keep}
-use Rattle.flat_table.specs.Table.{flatLength, flatWidth}
+use Rattle.names.proofs.Tests.{by-cases}
 use Rattle.recipe.specs.Records.{Recipe}
 use Rattle.tree.specs.Tree.{Node, node, treeElements}
 use Rattle.names.proofs.Stores.{sets-append}
+use Rattle.marks.proofs.Elements.{elements-few}
 use Rattle.marks.specs.Marks.{isGone, survivors}
 use Rattle.composer.specs.Flat.{flat, flatRecord}
-use Rattle.composer.specs.Writing.{Referring, Writing, elementAt}
-use Rattle.composer.proofs.ByNumber.{element-in, elements-few}
-use Rattle.composer.proofs.Lengths.{flat-bytes, record-bytes}
+use Rattle.composer.specs.Writing.{FatesRequires, elementAt}
+use Rattle.composer.proofs.ByNumber.{element-in, element-number}
 
 -- those that pass a test, from the first on
 module _ {A : Type 0} (t : A → Bool) (x : A) (xs : List A) where
@@ -45,14 +45,14 @@ module _ (s : Recipe) where
     unfolding from
     from-end h = rw (drop-of-length-le (treeElements s) h)
 
-    module _ (l : e < length (treeElements s)) {b : Bool} (h : b ≡ isGone s (elementAt s e)) where
-      pub from-gone : b ≡ true → from e ≡ from (e + 1)
+    module _ (l : e < length (treeElements s)) where
+      pub from-gone : isGone s (elementAt s e) ≡ true → from e ≡ from (e + 1)
       unfolding from elementAt
-      from-gone t = rw (add-one, drop-cons (treeElements s) e (node [] 0) l) (keep-off survives (getD (treeElements s) e (node [] 0)) (drop (suc e) (treeElements s)) (ap not (sym h ∙ t)))
+      from-gone t = rw (add-one, drop-cons (treeElements s) e (node [] 0) l) (keep-off survives (getD (treeElements s) e (node [] 0)) (drop (suc e) (treeElements s)) (ap not t))
 
-      pub from-survivor : b ≡ false → from e ≡ elementAt s e ∷ from (e + 1)
+      pub from-survivor : isGone s (elementAt s e) ≡ false → from e ≡ elementAt s e ∷ from (e + 1)
       unfolding from elementAt
-      from-survivor t = rw (add-one, drop-cons (treeElements s) e (node [] 0) l) (keep-on survives (getD (treeElements s) e (node [] 0)) (drop (suc e) (treeElements s)) (ap not (sym h ∙ t)))
+      from-survivor t = rw (add-one, drop-cons (treeElements s) e (node [] 0) l) (keep-on survives (getD (treeElements s) e (node [] 0)) (drop (suc e) (treeElements s)) (ap not t))
 
   -- ---- how many there are
   pub record Counting (total e n : ℕ) : Type 0 where
@@ -67,12 +67,12 @@ module _ (s : Recipe) where
     pub counting-end : total ≤ e → n ≡ length (survivors s)
     counting-end h = omega (arith, c .rest, ap length (from-end e (omega (arith, t))))
 
-    module _ (l : e < total) {b : Bool} (h : b ≡ isGone s (elementAt s e)) where
-      pub counting-gone : b ≡ true → Counting total (e + 1) n
-      counting-gone k = record { low = omega arith; few = omega (arith, c .few); rest = omega (arith, c .rest, ap length (from-gone e (omega (arith, t)) h k)) }
+    module _ (l : e < total) where
+      pub counting-gone : isGone s (elementAt s e) ≡ true → Counting total (e + 1) n
+      counting-gone k = record { low = omega arith; few = omega (arith, c .few); rest = omega (arith, c .rest, ap length (from-gone e (omega (arith, t)) k)) }
 
-      pub counting-survivor : b ≡ false → Counting total (e + 1) (n + 1)
-      counting-survivor k = record { low = omega arith; few = omega (arith, c .few); rest = omega (arith, c .rest, ap length (from-survivor e (omega (arith, t)) h k)) }
+      pub counting-survivor : isGone s (elementAt s e) ≡ false → Counting total (e + 1) (n + 1)
+      counting-survivor k = record { low = omega arith; few = omega (arith, c .few); rest = omega (arith, c .rest, ap length (from-survivor e (omega (arith, t)) k)) }
 
   -- ---- their records, written one behind the other: storing those of e and behind it at `at` gives the whole table
   pub record Going (total : ℕ) (out₀ out : List ℕ) (e at : ℕ) : Type 0 where
@@ -93,15 +93,15 @@ module _ (s : Recipe) where
         ∙ sets-eq (flat s) out₀ 0 (omega arith)
         ∙ ap (λ (k : ℕ). flat s ++ drop k out₀) (zero-add (length (flat s)))
 
-    module _ (l : e < total) {b : Bool} (h : b ≡ isGone s (elementAt s e)) where
-      pub going-gone : b ≡ true → Going total out₀ out (e + 1) at
+    module _ (l : e < total) where
+      pub going-gone : isGone s (elementAt s e) ≡ true → Going total out₀ out (e + 1) at
       going-gone k =
-          let f = from-gone e (omega (arith, t)) h k in
+          let f = from-gone e (omega (arith, t)) k in
           record { low = omega arith; long = g .long; room = rw f at (g .room); rest = rw f at (g .rest) }
 
-      module _ (k : b ≡ false) where
+      module _ (k : isGone s (elementAt s e) ≡ false) where
         one-more : joined (map (flatRecord s) (from e)) ≡ flatRecord s (elementAt s e) ++ joined (map (flatRecord s) (from (e + 1)))
-        one-more = ap (λ (x : List Node). joined (map (flatRecord s) x)) (from-survivor e (omega (arith, t)) h k)
+        one-more = ap (λ (x : List Node). joined (map (flatRecord s) x)) (from-survivor e (omega (arith, t)) k)
 
         pub going-room : at + length (flatRecord s (elementAt s e)) ≤ length out
         going-room = omega (arith, g .room, ap length one-more, length-append (flatRecord s (elementAt s e)) (joined (map (flatRecord s) (from (e + 1)))))
@@ -118,27 +118,22 @@ module _ (s : Recipe) where
               ∙ g .rest;
         }
 
--- ---- what the tables give
-module _ (s : Recipe) (cells ord par refs go place within pre len : List ℕ) (total : ℕ) (W : Writing s cells ord par refs go place within pre len total) where
-  pub referring : Referring s ord refs go
-  referring = record { declared = W .marked .declared; orders = W .marked .orders; references = W .references; steps = W .steps }
+-- ---- what the rows give
+module _ {s : Recipe} {el : List ℕ} {elems : ℕ} (F : FatesRequires s el elems) where
+  pub fates-few : elems ≤ 1024
+  fates-few = omega (arith, F .count, elements-few s (F .row₇))
 
-  two : 2 ≤ s .width
-  two = omega (arith, W .named .naming .wide)
+  module _ {e : ℕ} (l : e < elems) where
+    pub fate-room : 5 * e + 5 ≤ length el
+    fate-room = omega (arith, F .count, F .room)
 
-  -- the table's room
-  pub flat-room : (n : ℕ) → flatLength (s .width) * length (survivors s) ≤ n → length (flat s) ≤ n
-  flat-room n h = omega (arith, flat-bytes s two (W .named .naming .formed) (W .marked .small) (W .marked .declared))
+    fate : getD el (5 * e + 2) 0 ≡ cond (isGone s (elementAt s e)) 1 0
+    fate =
+        let k : e < length (treeElements s) = omega (arith, F .count) in
+        ap (λ (n : ℕ). getD el (5 * n + 2) 0) (sym (element-number s (F .row₇) e k)) ∙ F .gones (elementAt s e) (element-in s (F .row₇) e k)
 
-  -- a record's
-  pub record-long : (e : ℕ) → e < total → length (flatRecord s (elementAt s e)) ≡ flatLength (s .width)
-  record-long e l =
-      record-bytes s two (W .named .naming .formed) (W .marked .small) (W .marked .declared) (elementAt s e)
-      (element-in s (W .marked .small) e (omega (arith, W .count)))
+    pub survives-at : {r : ℕ} → r ≡ getD el (5 * e + 2) 0 → r ≡ 0 → isGone s (elementAt s e) ≡ false
+    survives-at h z = by-cases (isGone s (elementAt s e)) (λ b. absurd (let k : 1 ≡ 0 = sym (fate ∙ rw b) ∙ sym h ∙ z in omega arith)) (λ b. b)
 
-  pub record-counted : (e : ℕ) → e < total → length (flatRecord s (elementAt s e)) ≡ 15 * s .width + 25
-  unfolding flatLength flatWidth
-  record-counted e l = record-long e l ∙ omega arith
-
-  pub few : total ≤ 1024
-  few = omega (arith, W .count, elements-few s (W .marked .small))
+    pub gone-at : {r : ℕ} → r ≡ getD el (5 * e + 2) 0 → (r ≡ 0 → ⊥) → isGone s (elementAt s e) ≡ true
+    gone-at h z = by-cases (isGone s (elementAt s e)) (λ b. b) (λ b. absurd (z (h ∙ fate ∙ rw b)))

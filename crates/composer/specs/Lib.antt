@@ -1,7 +1,6 @@
--- What flattening promises: prefixes and flat records, the verdict and the output, what is printed, and 01's samples; and what its writer is given.
+-- What flattening promises: prefixes and flat records, the verdict and the output, what is printed; and what its writer is given.
 pub mod Flat
 pub mod FlatRecords
 pub mod Verdicts
 pub mod Printed
-pub mod Samples
 pub mod Writing

@@ -1,4 +1,4 @@
--- 01's "Verdicts": the order of judging, row 13, the answer of flattening a recipe into an output, and the output afterwards.
+-- 01's "Verdicts": row 13 behind the others, the answer of flattening a recipe into an output, and the output afterwards.
 -- Assumes nothing.
 use Prim.Native.Nat.{ℕ, _*_}
 use mathlib.Core.Bool.{cond}
@@ -7,13 +7,12 @@ use mathlib.Core.List.{List, [], _∷_, _++_}
 use lib.ListN.{length, drop}
 use lib.Dec.{ltb, eqb}
 use Rattle.names.specs.declared.Refusal.{Refusal}
-use Rattle.names.specs.Judging.{Row, row, judged, NoneApplies}
+use Rattle.names.specs.Judging.{row, judged}
 use Rattle.flat_table.specs.Table.{flatLength}
 use Rattle.recipe.specs.Records.{Recipe}
-use Rattle.recipe.specs.Reading.{atStart, formRows, namingRows}
-use Rattle.tree.specs.Faults.{treeRows, targetRows}
+use Rattle.recipe.specs.Reading.{atStart}
 use Rattle.marks.specs.Marks.{survivors}
-use Rattle.marks.specs.Faults.{markRows, referenceRows}
+use Rattle.compose.specs.Rows.{refusalOf}
 use Rattle.composer.specs.declared.Answer.{Answer}
 use Rattle.composer.specs.Flat.{flat}
 
@@ -24,18 +23,6 @@ nameWidth = 12
 -- "A recipe is a byte string": the recipe of these bytes, as 01's calls take it
 unfoldable pub recipeOf : List ℕ → Recipe
 recipeOf b = record { width = nameWidth; bytes = b }
-
--- the order of judging: the rows 1 to 12, which say nothing of the output, each with its number where it is defined
-abbrev pub refusalRows : Recipe → List Row
-refusalRows s = (formRows s ++ namingRows s) ++ (treeRows s ++ (targetRows s ++ (markRows s ++ referenceRows s)))
-
--- "The lowest number that applies is given, then its lowest place": the refusal of a recipe by these rows, if any
-unfoldable pub refusalOf : Recipe → Option Refusal
-refusalOf s = judged (refusalRows s)
-
--- every one of these rows is none
-abbrev pub Unrefused : Recipe → Type 0
-Unrefused s = NoneApplies (refusalRows s)
 
 -- row 13: "output shorter than 205 × survivors", the output having `room` bytes
 unfoldable pub fault₁₃ : Recipe → ℕ → Option ℕ

@@ -1,68 +1,54 @@
--- What the writer of the flat table is given: the tables by place and by number, and the rows that are clear.
+-- What the writer of the flat table is given: the elements of the tree by number, with their fates and ends of chains, and the prefixes.
 -- Assumes nothing.
-use Prim.Native.Nat.{ℕ}
+use Prim.Native.Nat.{ℕ, _+_, _*_, _-_, _<_, _≤_}
+use lib.Dec.{eqb}
 use lib.ListN.{getD, length}
-use mathlib.Core.Bool.{true}
+use mathlib.Core.Bool.{cond, true}
 use mathlib.Core.List.{List, []}
-use mathlib.Core.Option.{Option·getD, none}
+use mathlib.Core.Option.{Option, Option·getD, none, some}
 use mathlib.Core.Path.{_≡_}
 use Rattle.names.specs.Lists.{In}
-use Rattle.recipe.specs.Definitions.{elementIn, holder}
+use Rattle.recipe.specs.Definitions.{elementIn}
 use Rattle.recipe.specs.Reading.{fault₅}
-use Rattle.recipe.specs.Records.{Recipe, isElement, parentField, places, referenceField}
-use Rattle.tree.specs.Numbers.{Instances, number, order}
-use Rattle.tree.specs.Tree.{Node, node, treeElements}
-use Rattle.marks.specs.Elements.{Elements}
-use Rattle.marks.specs.Gone.{Marked}
-use Rattle.marks.specs.Steps.{StepsAre}
-use Rattle.flat_names.specs.Rows.{Naming, Prefixed, Tables}
-use Rattle.composer.specs.Verdicts.{Unrefused}
+use Rattle.recipe.specs.Records.{Recipe, isElement, parentField, places}
+use Rattle.shadow.specs.Shadow.{Shadowed}
+use Rattle.tree.specs.Faults.{fault₇}
+use Rattle.tree.specs.Tree.{Node, instances, node, treeElements}
+use Rattle.marks.specs.Composed.{ElementRows, Ends, Gones}
+use Rattle.flat_names.specs.Rows.{Naming, Prefixed}
 
 -- "in tree order": the element of number e
 unfoldable pub elementAt : Recipe → ℕ → Node
 elementAt s e = getD (treeElements s) e (node [] 0)
 
--- by an element's place, its number in its definition
-abbrev pub OrdersAre : Recipe → List ℕ → Type 0
-OrdersAre s ord = (e : ℕ) → In e (places s) → isElement s e ≡ true → getD ord e 0 ≡ order s (holder s e) e
+-- the element of record m in the instance of number i; none where m is 0
+unfoldable pub siteOf : Recipe → ℕ → ℕ → Option Node
+siteOf s i m = cond (eqb m 0) none (some (node (getD (instances s) i []) m))
 
--- its parent's place, 0 for none
-abbrev pub ParentsAre : Recipe → List ℕ → Type 0
-ParentsAre s par = (e : ℕ) → In e (places s) → isElement s e ≡ true → getD par e 0 ≡ Option·getD (elementIn s e (parentField s e)) 0
+-- the elements by number and which of them are gone, of a recipe that row 7 does not refuse
+pub record FatesRequires (s : Recipe) (el : List ℕ) (elems : ℕ) : Type 0 where
+  pub row₇ : fault₇ s ≡ none
+  pub count : elems ≡ length (treeElements s)
+  pub room : 5 * length (treeElements s) ≤ length el
+  pub gones : Gones s el
 
--- the place of the element that its reference names, 0 for none
-abbrev pub ReferencesAre : Recipe → List ℕ → Type 0
-ReferencesAre s refs = (e : ℕ) → In e (places s) → isElement s e ≡ true → getD refs e 0 ≡ Option·getD (elementIn s e (referenceField s e)) 0
-
--- what the name of an element of the tree takes, by its number
-pub record Named (s : Recipe) (place within pre len : List ℕ) : Type 0 where
+-- what the flat table takes
+pub record WriterRequires (s : Recipe) (t el pre len : List ℕ) (elems : ℕ) : Type 0 where
   pub naming : Naming s
-  pub elements : Elements s place within
+  pub row₅ : fault₅ s ≡ none
+  pub shadowed : Shadowed s t
+  pub parents : (e : ℕ) → In e (places s) → isElement s e ≡ true → getD t (e + 3) 0 ≡ Option·getD (elementIn s e (parentField s e)) 0
+  pub fates : FatesRequires s el elems
+  pub elements : ElementRows s el
+  pub ends : Ends s el
   pub prefixes : Prefixed s pre len
 
--- what the end of the chain from an element's reference takes
-pub record Referring (s : Recipe) (ord refs go : List ℕ) : Type 0 where
-  pub declared : fault₅ s ≡ none
-  pub orders : OrdersAre s ord
-  pub references : ReferencesAre s refs
-  pub steps : StepsAre s go
+-- a site that is filled is an element of the tree
+abbrev pub SiteInTree : Recipe → ℕ → ℕ → Type 0
+SiteInTree s i m = (m ≡ 0 → ⊥) → (i < length (instances s)) × In (node (getD (instances s) i []) m) (treeElements s)
 
--- what the flat table takes: which elements are gone, their names, their references, and how many there are
-pub record Writing (s : Recipe) (cells ord par refs go place within pre len : List ℕ) (total : ℕ) : Type 0 where
-  pub marked : Marked s cells ord par
-  pub named : Named s place within pre len
-  pub references : ReferencesAre s refs
-  pub steps : StepsAre s go
-  pub count : total ≡ length (treeElements s)
-
--- rows 1 to 12 do not apply, and what judging them leaves to the room and the writer
-pub record Judged (s : Recipe) (hold model par refs ord inst place within cells go : List ℕ) (insts elems : ℕ) : Type 0 where
-  pub unrefused : Unrefused s
-  pub naming : Naming s
-  pub tables : Tables s hold model
-  pub tree : Instances s inst insts
-  pub elements : Elements s place within
-  pub marked : Marked s cells ord par
-  pub references : ReferencesAre s refs
-  pub steps : StepsAre s go
-  pub count : elems ≡ length (treeElements s)
+-- i and m are the instance and the record of the element of number z - 1, by its row; 0 and 0 where z is 0
+pub record SiteAt (el : List ℕ) (z i m : ℕ) : Type 0 where
+  pub blank : z ≡ 0 → m ≡ 0
+  pub within : (z ≡ 0 → ⊥) → i ≡ getD el (5 * (z - 1) + 1) 0
+  pub records : (z ≡ 0 → ⊥) → m ≡ getD el (5 * (z - 1) + 0) 0

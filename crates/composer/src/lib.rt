@@ -1,21 +1,26 @@
-// Flattening: a recipe's answer, and its flat table, written from the tables of the floors below.
+// Flattening: a recipe's answer, and its flat table, written from the rooms that composing fills.
 // Public calls, which require nothing: flatten; bandrolt_flatten, the same exported to C; flatten_and_check.
 ghost use mathlib.Core.Path.{_≡_};
-ghost use mathlib.Core.Option.{some};
 ghost use mathlib.Core.List.{_++_};
-ghost use Prim.Native.Nat.{_+_, _-_, _*_, _<_, _≤_};
+ghost use Prim.Native.Nat.{_+_, _*_, _<_, _≤_};
 ghost use lib.ListN.{length, getD, drop};
 ghost use lib.Seq.{sets};
 ghost use Rattle.flat_table.specs.Table.{flatWidth, flatLength};
-ghost use Rattle.recipe.specs.Records.{Recipe};
-ghost use Rattle.tree.specs.Tree.{treeElements, parentOf};
-ghost use Rattle.marks.specs.Gone.{Marked};
-ghost use Rattle.marks.specs.Marks.{isGone, survivors};
-ghost use Rattle.composer.specs.Flat.{flatField, flatReference, flatRecord, flat};
-ghost use Rattle.reading.specs.Tables.{Tables};
+ghost use Rattle.recipe.specs.Records.{recipeAt};
+ghost use Rattle.marks.specs.Composed.{Composed};
+ghost use Rattle.marks.specs.Marks.{survivors};
+ghost use Rattle.flat_names.specs.Rows.{Naming, Prefixed};
+ghost use Rattle.composer.specs.Flat.{flatField, flat};
 ghost use Rattle.composer.specs.Verdicts.{recipeOf, refused, verdict, written};
-ghost use Rattle.marks.specs.References.{PlacesAre};
-ghost use Rattle.composer.specs.Writing.{elementAt, ParentsAre, Named, Referring, Writing, Judged};
+ghost use Rattle.compose.specs.Rows.{Unrefused};
+ghost use Rattle.composer.specs.Writing.{siteOf, SiteInTree, SiteAt, FatesRequires, WriterRequires};
+use marks::GONE;
+use marks::INSTANCE;
+use marks::RECORD;
+use shadow::cell;
+
+// 01's name width.
+const NAME_WIDTH: usize = 12;
 
 // Flattening's answer: 0, or the number and place of the refusal; the records and bytes written.
 #[repr(C)]
@@ -26,190 +31,112 @@ pub struct Answer {
     pub bytes: u64,
 }
 
-// Whether the element of number e is gone.
-fn gone_at(
-    s: &[u8],
-    w: usize,
-    cells: &[u8; 12288],
-    ord: &[u16; 16384],
-    par: &[u16; 16384],
-    place: &[u16; 1024],
-    e: usize,
-) -> bool
-    requires { ⌜ Marked (record { width = w; bytes = now s }) (now cells) (now ord) (now par) × (PlacesAre (record { width = w; bytes = now s }) (now place) × (e < length (treeElements (record { width = w; bytes = now s })))) ⌝ }
-    ensures { λ r. ⌜ r ≡ isGone (record { width = w; bytes = now (s .entry) }) (elementAt (record { width = w; bytes = now (s .entry) }) e) ⌝ }
-{
-    let q = recipe::wide(place[e]);
-    marks::is_gone(s, w, e, q, ord, par, cells)
+// An element of the tree by the number of its instance and its record; record 0 is none.
+pub struct Site {
+    pub inst: usize,
+    pub record: usize,
 }
 
-// How many elements of the tree survive; it has `total` elements.
-fn count_survivors(
-    s: &[u8],
-    w: usize,
-    cells: &[u8; 12288],
-    ord: &[u16; 16384],
-    par: &[u16; 16384],
-    place: &[u16; 1024],
-    total: usize,
-) -> usize
-    requires { ⌜ Marked (record { width = w; bytes = now s }) (now cells) (now ord) (now par) × (PlacesAre (record { width = w; bytes = now s }) (now place) × (total ≡ length (treeElements (record { width = w; bytes = now s })))) ⌝ }
-    ensures { λ r. ⌜ r ≡ length (survivors (record { width = w; bytes = now (s .entry) })) ⌝ }
+// The bytes of a field of the flat table.
+fn field_width(w: usize) -> usize
+    requires { ⌜ w ≤ 64 ⌝ }
+    ensures { λ r. ⌜ r ≡ flatWidth w ⌝ }
+{
+    5 * w + 8
+}
+
+// The bytes of its records.
+fn record_width(w: usize) -> usize
+    requires { ⌜ w ≤ 64 ⌝ }
+    ensures { λ r. ⌜ r ≡ flatLength w ⌝ }
+{
+    1 + 3 * field_width(w)
+}
+
+// How many of the elements survive.
+fn count_survivors(s: &[u8], w: usize, el: &[u16], elems: usize) -> usize
+    requires { ⌜ FatesRequires (recipeAt w (now s)) (now el) elems ⌝ }
+    ensures { λ r. ⌜ r ≡ length (survivors (recipeAt w (now (s .entry)))) ⌝ }
 {
     let mut e = 0usize;
     let mut n = 0usize;
-    while e < total {
-        if gone_at(s, w, cells, ord, par, place, e) {
+    while e < elems {
+        if cell(el, 5 * e, GONE) == 0 {
+            n += 1;
             e += 1;
         } else {
-            n += 1;
             e += 1;
         }
     }
     n
 }
 
-// Writes the field of the element of number e: its flat name.
-fn put_element(
-    s: &[u8],
-    w: usize,
-    place: &[u16; 1024],
-    within: &[u16; 1024],
-    pre: &[u8; 16896],
-    len: &[u16; 64],
-    e: usize,
-    out: &mut [u8],
-    at: usize,
-)
-    requires { ⌜ Named (record { width = w; bytes = now s }) (now place) (now within) (now pre) (now len) × ((e < length (treeElements (record { width = w; bytes = now s }))) × (at + flatWidth w ≤ length (now out))) ⌝ }
-    ensures { λ _. ⌜ now (out .exit) ≡ sets (now (out .entry)) at (flatField (record { width = w; bytes = now (s .entry) }) (some (elementAt (record { width = w; bytes = now (s .entry) }) e))) ⌝ }
+// Where the end of the chain from the reference of the element of number e is.
+fn reference_site(el: &[u16], e: usize) -> Site
+    requires { ⌜ (e < 1024) × ((5 * e + 4 < length (now el)) × (5 * getD (now el) (5 * e + 4) 0 ≤ length (now el))) ⌝ }
+    ensures { λ r. ⌜ SiteAt (now (el .entry)) (getD (now (el .entry)) (5 * e + 4) 0) (r .inst) (r .record) ⌝ }
 {
-    let q = recipe::wide(place[e]);
-    let i = recipe::wide(within[e]);
-    flat_names::put_name(s, w, pre, len, i, q, out, at);
+    let z = cell(el, 5 * e, marks::REFERENCE_END);
+    if z == 0 {
+        return Site { inst: 0, record: 0 };
+    }
+    let i = cell(el, 5 * (z - 1), INSTANCE);
+    let m = cell(el, 5 * (z - 1), RECORD);
+    Site { inst: i, record: m }
 }
 
-// Writes the field of its parent, which is an element of the same instance, or a blank.
-fn put_parent(
+// Writes the field of the flat name of the element of record m in instance i, or a blank where m is 0.
+fn put_field(
     s: &[u8],
     w: usize,
-    par: &[u16; 16384],
-    place: &[u16; 1024],
-    within: &[u16; 1024],
-    pre: &[u8; 16896],
-    len: &[u16; 64],
-    e: usize,
+    pre: &[u8],
+    len: &[u16],
+    i: usize,
+    m: usize,
     out: &mut [u8],
     at: usize,
 )
-    requires { ⌜ Named (record { width = w; bytes = now s }) (now place) (now within) (now pre) (now len) × (ParentsAre (record { width = w; bytes = now s }) (now par) × ((e < length (treeElements (record { width = w; bytes = now s }))) × (at + flatWidth w ≤ length (now out)))) ⌝ }
-    ensures { λ _. ⌜ now (out .exit) ≡ sets (now (out .entry)) at (flatField (record { width = w; bytes = now (s .entry) }) (parentOf (record { width = w; bytes = now (s .entry) }) (elementAt (record { width = w; bytes = now (s .entry) }) e))) ⌝ }
+    requires { ⌜ Naming (recipeAt w (now s)) × (Prefixed (recipeAt w (now s)) (now pre) (now len) × (SiteInTree (recipeAt w (now s)) i m × (at + flatWidth w ≤ length (now out)))) ⌝ }
+    ensures { λ _. ⌜ now (out .exit) ≡ sets (now (out .entry)) at (flatField (recipeAt w (now (s .entry))) (siteOf (recipeAt w (now (s .entry))) i m)) ⌝ }
 {
-    let q = recipe::wide(place[e]);
-    let m = recipe::wide(par[q]);
     if m == 0 {
-        flat_names::put_zeros(out, at, 5 * w + 8);
+        flat_names::put_zeros(out, at, field_width(w));
         return;
     }
-    let i = recipe::wide(within[e]);
     flat_names::put_name(s, w, pre, len, i, m, out, at);
-}
-
-// The number of the element at m in the instance of the element of number e, which is at q.
-fn sibling(ord: &[u16; 16384], e: usize, q: usize, m: usize) -> usize
-    requires { ⌜ (q < 16384) × ((m < 16384) × ((e < 1024) × (getD (now ord) q 0 ≤ e))) ⌝ }
-    ensures { λ r. ⌜ r ≡ e - getD (now (ord .entry)) q 0 + getD (now (ord .entry)) m 0 ⌝ }
-{
-    let a = recipe::wide(ord[q]);
-    let b = recipe::wide(ord[m]);
-    e - a + b
-}
-
-// Writes the field of the end of the chain from its reference, or a blank.
-fn put_reference(
-    s: &[u8],
-    w: usize,
-    ord: &[u16; 16384],
-    refs: &[u16; 16384],
-    go: &[u16; 1024],
-    place: &[u16; 1024],
-    within: &[u16; 1024],
-    pre: &[u8; 16896],
-    len: &[u16; 64],
-    e: usize,
-    out: &mut [u8],
-    at: usize,
-)
-    requires { ⌜ Named (record { width = w; bytes = now s }) (now place) (now within) (now pre) (now len) × (Referring (record { width = w; bytes = now s }) (now ord) (now refs) (now go) × ((e < length (treeElements (record { width = w; bytes = now s }))) × (at + flatWidth w ≤ length (now out)))) ⌝ }
-    ensures { λ _. ⌜ now (out .exit) ≡ sets (now (out .entry)) at (flatField (record { width = w; bytes = now (s .entry) }) (flatReference (record { width = w; bytes = now (s .entry) }) (elementAt (record { width = w; bytes = now (s .entry) }) e))) ⌝ }
-{
-    let q = recipe::wide(place[e]);
-    let m = recipe::wide(refs[q]);
-    if m == 0 {
-        flat_names::put_zeros(out, at, 5 * w + 8);
-        return;
-    }
-    let y = sibling(ord, e, q, m);
-    let z = marks::chain_end(s, w, y, go);
-    put_element(s, w, place, within, pre, len, z, out, at);
-}
-
-// Writes the flat record of the element of number e.
-fn put_record(
-    s: &[u8],
-    w: usize,
-    ord: &[u16; 16384],
-    par: &[u16; 16384],
-    refs: &[u16; 16384],
-    go: &[u16; 1024],
-    place: &[u16; 1024],
-    within: &[u16; 1024],
-    pre: &[u8; 16896],
-    len: &[u16; 64],
-    e: usize,
-    out: &mut [u8],
-    at: usize,
-)
-    requires { ⌜ Named (record { width = w; bytes = now s }) (now place) (now within) (now pre) (now len) × (ParentsAre (record { width = w; bytes = now s }) (now par) × (Referring (record { width = w; bytes = now s }) (now ord) (now refs) (now go) × ((e < length (treeElements (record { width = w; bytes = now s }))) × (at + flatLength w ≤ length (now out))))) ⌝ }
-    ensures { λ _. ⌜ now (out .exit) ≡ sets (now (out .entry)) at (flatRecord (record { width = w; bytes = now (s .entry) }) (elementAt (record { width = w; bytes = now (s .entry) }) e)) ⌝ }
-{
-    let f = 5 * w + 8;
-    let a = at + 1;
-    let b = a + f;
-    let c = b + f;
-    out[at] = s[recipe::wide(place[e]) + 1 + w];
-    put_element(s, w, place, within, pre, len, e, out, a);
-    put_parent(s, w, par, place, within, pre, len, e, out, b);
-    put_reference(s, w, ord, refs, go, place, within, pre, len, e, out, c);
 }
 
 // Writes the flat table: the record of each survivor, in tree order.
 fn write_table(
     s: &[u8],
     w: usize,
-    cells: &[u8; 12288],
-    ord: &[u16; 16384],
-    par: &[u16; 16384],
-    refs: &[u16; 16384],
-    go: &[u16; 1024],
-    place: &[u16; 1024],
-    within: &[u16; 1024],
-    pre: &[u8; 16896],
-    len: &[u16; 64],
-    total: usize,
+    t: &[u16],
+    el: &[u16],
+    elems: usize,
+    pre: &[u8],
+    len: &[u16],
     out: &mut [u8],
 )
-    requires { ⌜ Writing (record { width = w; bytes = now s }) (now cells) (now ord) (now par) (now refs) (now go) (now place) (now within) (now pre) (now len) total × (flatLength w * length (survivors (record { width = w; bytes = now s })) ≤ length (now out)) ⌝ }
-    ensures { λ _. ⌜ now (out .exit) ≡ flat (record { width = w; bytes = now (s .entry) }) ++ drop (length (flat (record { width = w; bytes = now (s .entry) }))) (now (out .entry)) ⌝ }
+    requires { ⌜ WriterRequires (recipeAt w (now s)) (now t) (now el) (now pre) (now len) elems × (flatLength w * length (survivors (recipeAt w (now s))) ≤ length (now out)) ⌝ }
+    ensures { λ _. ⌜ now (out .exit) ≡ flat (recipeAt w (now (s .entry))) ++ drop (length (flat (recipeAt w (now (s .entry))))) (now (out .entry)) ⌝ }
 {
+    let f = field_width(w);
+    let row = record_width(w);
     let mut e = 0;
     let mut p = 0usize;
-    while e < total {
-        if gone_at(s, w, cells, ord, par, place, e) {
+    while e < elems {
+        if cell(el, 5 * e, GONE) == 0 {
+            let q = cell(el, 5 * e, RECORD);
+            let i = cell(el, 5 * e, INSTANCE);
+            let m = cell(t, q, shadow::PARENT);
+            let z = reference_site(el, e);
+            out[p] = s[q + 1 + w];
+            put_field(s, w, pre, len, i, q, out, p + 1);
+            put_field(s, w, pre, len, i, m, out, p + 1 + f);
+            put_field(s, w, pre, len, z.inst, z.record, out, p + 1 + f + f);
+            p += row;
             e += 1;
         } else {
-            put_record(s, w, ord, par, refs, go, place, within, pre, len, e, out, p);
-            p += 15 * w + 25;
             e += 1;
         }
     }
@@ -227,50 +154,46 @@ fn refusal(number: u64, place: u64) -> Answer
     }
 }
 
-// Row 13, of a recipe that no other row refuses; where it does not apply, the flat table.
-fn flatten_judged(
+// The prefixes of a recipe that no row refuses, and the flat table.
+fn write_all(
     s: &[u8],
     w: usize,
-    hold: &[u16; 16384],
-    model: &[u16; 16384],
-    par: &[u16; 16384],
-    refs: &[u16; 16384],
-    ord: &[u16; 16384],
-    inst: &[u16; 320],
-    place: &[u16; 1024],
-    within: &[u16; 1024],
-    cells: &[u8; 12288],
-    go: &[u16; 1024],
+    t: &[u16],
+    inst: &[u16],
+    el: &[u16],
+    insts: usize,
+    elems: usize,
+    table: &mut [u8],
+)
+    requires { ⌜ Composed (recipeAt w (now s)) (now t) (now inst) (now el) insts elems × (flatLength w * length (survivors (recipeAt w (now s))) ≤ length (now table)) ⌝ }
+    ensures { λ _. ⌜ now (table .exit) ≡ flat (recipeAt w (now (s .entry))) ++ drop (length (flat (recipeAt w (now (s .entry))))) (now (table .entry)) ⌝ }
+{
+    let mut pre = [0u8; flat_names::PREFIX_BYTES];
+    let mut len = [0u16; flat_names::PREFIX_ROWS];
+    flat_names::fill_prefixes(s, w, t, inst, insts, &mut pre, &mut len);
+    write_table(s, w, t, el, elems, &pre, &len, table);
+}
+
+// Row 13, of a recipe that no other row refuses; where it does not apply, the flat table.
+fn flatten_composed(
+    s: &[u8],
+    w: usize,
+    t: &[u16],
+    inst: &[u16],
+    el: &[u16],
     insts: usize,
     elems: usize,
     table: &mut [u8],
 ) -> Answer
-    requires { ⌜ Judged (record { width = w; bytes = now s }) (now hold) (now model) (now par) (now refs) (now ord) (now inst) (now place) (now within) (now cells) (now go) insts elems ⌝ }
-    ensures { λ r. ⌜ (r ≡ verdict (record { width = w; bytes = now (s .entry) }) (length (now (table .entry)))) × (now (table .exit) ≡ written (record { width = w; bytes = now (s .entry) }) (now (table .entry))) ⌝ }
+    requires { ⌜ Composed (recipeAt w (now s)) (now t) (now inst) (now el) insts elems × Unrefused (recipeAt w (now s)) ⌝ }
+    ensures { λ r. ⌜ (r ≡ verdict (recipeAt w (now (s .entry))) (length (now (table .entry)))) × (now (table .exit) ≡ written (recipeAt w (now (s .entry))) (now (table .entry))) ⌝ }
 {
-    let n = count_survivors(s, w, cells, ord, par, place, elems);
-    let bytes = n * (15 * w + 25);
+    let n = count_survivors(s, w, el, elems);
+    let bytes = n * record_width(w);
     if table.len() < bytes {
         return refusal(13, 0);
     }
-    let mut pre = [0u8; 16896];
-    let mut len = [0u16; 64];
-    flat_names::fill_prefixes(s, w, hold, model, inst, insts, &mut pre, &mut len);
-    write_table(
-        s,
-        w,
-        cells,
-        ord,
-        par,
-        refs,
-        go,
-        place,
-        within,
-        &pre,
-        &len,
-        elems,
-        table,
-    );
+    write_all(s, w, t, inst, el, insts, elems, table);
     Answer {
         number: 0,
         place: 0,
@@ -279,113 +202,22 @@ fn flatten_judged(
     }
 }
 
-// Rows 7 to 13 of a recipe that rows 1 to 6 let pass, and its flat table.
-fn flatten_read(
-    s: &[u8],
-    w: usize,
-    hold: &[u16; 16384],
-    model: &[u16; 16384],
-    height: &[u16; 16384],
-    own: &[u16; 16384],
-    sub: &[u16; 16384],
-    par: &[u16; 16384],
-    refs: &[u16; 16384],
-    nxt: &[u16; 16384],
-    table: &mut [u8],
-) -> Answer
-    requires { ⌜ Tables (record { width = w; bytes = now s }) (now hold) (now model) (now height) (now own) (now sub) (now par) (now refs) (now nxt) ⌝ }
-    ensures { λ r. ⌜ (r ≡ verdict (record { width = w; bytes = now (s .entry) }) (length (now (table .entry)))) × (now (table .exit) ≡ written (record { width = w; bytes = now (s .entry) }) (now (table .entry))) ⌝ }
-{
-    let mut ord = [0u16; 16384];
-    let mut inst = [0u16; 320];
-    let mut place = [0u16; 1024];
-    let mut within = [0u16; 1024];
-    let mut cells = [0u8; 12288];
-    let mut go = [0u16; 1024];
-    let j = judging::judge_tree(
-        s,
-        w,
-        hold,
-        model,
-        height,
-        own,
-        sub,
-        par,
-        refs,
-        nxt,
-        &mut ord,
-        &mut inst,
-        &mut place,
-        &mut within,
-        &mut cells,
-        &mut go,
-    );
-    let number = j.number;
-    let at = j.place;
-    let insts = j.insts;
-    let elems = j.elems;
-    if number != 0 {
-        return refusal(number, at);
-    }
-    flatten_judged(
-        s,
-        w,
-        hold,
-        model,
-        par,
-        refs,
-        &ord,
-        &inst,
-        &place,
-        &within,
-        &cells,
-        &go,
-        insts,
-        elems,
-        table,
-    )
-}
-
 // 01's flattening of a recipe of name width 12: the answer, and the flat table; on a refusal the table as it was.
 pub fn flatten(recipe: &[u8], table: &mut [u8]) -> Answer
     ensures { λ r. ⌜ (r ≡ verdict (recipeOf (now (recipe .entry))) (length (now (table .entry)))) × (now (table .exit) ≡ written (recipeOf (now (recipe .entry))) (now (table .entry))) ⌝ }
 {
-    let mut hold = [0u16; 16384];
-    let mut model = [0u16; 16384];
-    let mut height = [0u16; 16384];
-    let mut own = [0u16; 16384];
-    let mut sub = [0u16; 16384];
-    let mut par = [0u16; 16384];
-    let mut refs = [0u16; 16384];
-    let mut nxt = [0u16; 16384];
-    let a = reading::read_tables(
-        recipe,
-        12,
-        &mut hold,
-        &mut model,
-        &mut height,
-        &mut own,
-        &mut sub,
-        &mut par,
-        &mut refs,
-        &mut nxt,
-    );
-    if a.number != 0 {
-        return refusal(a.number, a.place);
+    let mut t = [0u16; compose::SHADOW_CELLS];
+    let mut inst = [0u16; compose::INSTANCE_CELLS];
+    let mut el = [0u16; compose::ELEMENT_CELLS];
+    let c = compose::compose(recipe, NAME_WIDTH, &mut t, &mut inst, &mut el);
+    let number = c.number;
+    let place = c.place;
+    let insts = c.insts;
+    let elems = c.elems;
+    if number != 0 {
+        return refusal(number, place);
     }
-    flatten_read(
-        recipe,
-        12,
-        &hold,
-        &model,
-        &height,
-        &own,
-        &sub,
-        &par,
-        &refs,
-        &nxt,
-        table,
-    )
+    flatten_composed(recipe, NAME_WIDTH, &t, &inst, &el, insts, elems, table)
 }
 
 // The same, for C.

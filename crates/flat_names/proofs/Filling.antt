@@ -3,7 +3,6 @@
 use mathlib.Core.Path.{_≡_, refl, sym, ap, _∙_}
 use Prim.Native.Nat.{ℕ, zero, suc, _+_, _*_, _≤_, _<_}
 use native.Mathlib.Omega.{arith}
-use native.Mathlib.Nat.{mul-le-mul-right, suc-mul}
 use mathlib.Core.List.{List, [], _∷_, _++_, map, append-assoc, append-nil}
 use lib.ListN.{length, getD, set, take, drop, replicate, length-set, length-append, length-drop, length-replicate}
 use lib.Seq.{sets, sets-eq, length-sets, getD-set-other, getD-set-same, take-set-le, length-take-le, drop-at, take-append-seam}
@@ -15,12 +14,12 @@ use Rattle.recipe.specs.Records.{Recipe, name}
 use Rattle.recipe.specs.Definitions.{main, holder, submodels, modelOf}
 use Rattle.recipe.proofs.Definitions.{in-submodels}
 use Rattle.tree.specs.Tree.{instances, pathsBelow, mostDepth, Submodels}
-use Rattle.tree.specs.Numbers.{Above}
+use Rattle.tree.specs.Planted.{Planted}
 use Rattle.tree.proofs.Instances.{instance-path}
 use Rattle.flat_names.specs.Prefixes.{prefix, withUnderscores, namesAround, fewest}
-use Rattle.flat_names.specs.Rows.{Naming, RowsTo, prefixesOf}
+use Rattle.flat_names.specs.Rows.{Naming, RowsTo, Prefixed, prefixesOf, rowWidth}
 use Rattle.names.proofs.Stores.{Copied, copied-one}
-use Rattle.flat_names.proofs.Puts.{parts, instances-few, prefixes-short, row-room}
+use Rattle.flat_names.proofs.Puts.{parts, prefixes-short, rows-below, row-inside}
 use Rattle.flat_names.proofs.Looking.{name-bytes}
 
 -- ---- what a run of stores leaves as it was, and what it leaves
@@ -54,14 +53,8 @@ within-one {t} {a} {at} {out} {k} z h l =
 part-length : (a n : ℕ) (l : List ℕ) → a + n ≤ length l → length (take n (drop a l)) ≡ n
 part-length a n l h = length-take-le n (drop a l) (omega (arith, length-drop a l))
 
-rows-below : (u i r : ℕ) → u < i → u * r + r ≤ i * r
-rows-below u i r h = rw (← suc-mul) (mul-le-mul-right r h)
-
 sets-long : (out l : List ℕ) (i : ℕ) (vs : List ℕ) → out ≡ sets l i vs → length out ≡ length l
 sets-long out l i vs e = ap length e ∙ length-sets l i vs
-
-pub copied-long : (pre : List ℕ) (from l to : ℕ) (out : List ℕ) → out ≡ sets pre to (take l (drop from pre)) → length out ≡ length pre
-copied-long pre from l to out e = sets-long out pre to (take l (drop from pre)) e
 
 -- ---- one row
 module _ (s : Recipe) where
@@ -90,7 +83,7 @@ joined-last : (f : ℕ → List ℕ) (path : List ℕ) (m : ℕ) → joined (map
 joined-last f [] m = append-nil (f m)
 joined-last f (k ∷ path) m = ap (λ (l : List ℕ). f k ++ l) (joined-last f path m) ∙ sym (append-assoc (f k) (joined (map f path)) (f m))
 
-some-instance : (s : Recipe) → 1 ≤ length (instances s)
+pub some-instance : (s : Recipe) → 1 ≤ length (instances s)
 unfolding instances pathsBelow mostDepth
 some-instance s = omega arith
 
@@ -102,128 +95,110 @@ main-prefixes : (s : Recipe) → prefixesOf s 0 ≡ []
 unfolding prefixesOf
 main-prefixes s = ap (λ (path : List ℕ). joined (map (prefix s) path)) (main-path s)
 
--- main's row is empty
-pub rows-start : (s : Recipe) (pre len : List ℕ) → length len ≡ 64 → RowsTo s pre (set len 0 0) 1
-rows-start s pre len h =
-    record {
-      lengths = λ i l. let z : i ≡ 0 = omega arith in rw (z, main-prefixes s) (getD-set-same len 0 0 0 (omega arith));
-      bytes = λ i l. let z : i ≡ 0 = omega arith in rw (z, main-prefixes s);
-    }
-
--- what the loop keeps
-pub record Rowed (s : Recipe) (pre len : List ℕ) (n i : ℕ) : Type 0 where
+-- ---- what the loop keeps: the rows of the first i instances
+pub record Rowed (s : Recipe) (pre₀ len₀ pre len : List ℕ) (n i : ℕ) : Type 0 where
   pub rows : RowsTo s pre len i
   pub below : i ≤ n
   pub above : 0 < i
-  pub long : length pre ≡ 16896
-  pub lens : length len ≡ 64
+  pub long : length pre ≡ length pre₀
+  pub lens : length len ≡ length len₀
 
-pub rowed-end : {s : Recipe} {pre len : List ℕ} {n i : ℕ} → Rowed s pre len n i → n ≤ i → n ≡ length (instances s) → RowsTo s pre len (length (instances s))
-rowed-end {s} {pre} {len} {n} {i} g h e = let b = g .below in let z : i ≡ length (instances s) = omega arith in rw z at (g .rows)
+pub naming : {s : Recipe} {t inst : List ℕ} {n : ℕ} → Planted s t inst n → Naming s
+naming g =
+    let l = g .measured .linked in
+    let h = l .numbered .shadowed in
+    record { wide = h .wide; narrow = h .narrow; short = h .short; whole = h .whole; formed = l .row₃; small = g .row₇ }
 
-module _ (s : Recipe) (x : Naming s) (inst : List ℕ) (n : ℕ) (count : n ≡ length (instances s)) (above : Above s inst n) where
-  few : n ≤ 64
-  few = omega (arith, instances-few s x)
-
-  some : 1 ≤ n
-  some = omega (arith, some-instance s)
-
-  pub rowed-start : (pre len : List ℕ) → length pre ≡ 16896 → length len ≡ 64 → Rowed s pre (set len 0 0) n 1
-  rowed-start pre len h l = record { rows = rows-start s pre len l; below = some; above = omega arith; long = h; lens = length-set len 0 0 ∙ l }
-
-  module _ (i : ℕ) (low : i < n) (pos : 0 < i) (m u : ℕ) (em : m ≡ getD inst (5 * i + 3) 0) (eu : u ≡ getD inst (5 * i + 4) 0) where
-    around-low : u < i
-    around-low = omega (arith, above i low pos .0)
-
-    path-is : getD (instances s) i [] ≡ getD (instances s) u [] ++ (m ∷ [])
-    path-is = above i low pos .1 ∙ sym (rw (em, eu))
-
-    is-submodel : In m (submodels s (holder s m))
-    is-submodel =
-        last-submodel s main (getD (instances s) u []) m
-        (rw path-is at (instance-path s (getD (instances s) i []) (getD-in (instances s) i [] (let z : i < length (instances s) = omega arith in z))))
-
-    row-is : prefixesOf s i ≡ prefixesOf s u ++ prefix s m
-    unfolding prefixesOf
-    row-is = ap (λ (path : List ℕ). joined (map (prefix s) path)) path-is ∙ joined-last (prefix s) (getD (instances s) u []) m
-
-    module _ (pre len : List ℕ) (g : RowsTo s pre len i) (l : ℕ) (el : l ≡ getD len u 0) where
-      before-is : l ≡ length (prefixesOf s u)
-      before-is = el ∙ g .lengths u around-low
-
-      row-fits : l + length (prefix s m) ≤ 4 * s .width + 8
-      row-fits =
-          let z : i < length (instances s) = omega arith in
-          omega (arith, before-is, ap length row-is, length-append (prefixesOf s u) (prefix s m), prefixes-short s x i z)
-
-      rows-apart : u * (4 * s .width + 8) + (4 * s .width + 8) ≤ i * (4 * s .width + 8)
-      rows-apart = rows-below u i (4 * s .width + 8) around-low
-
-      rows-inside : i * (4 * s .width + 8) + (4 * s .width + 8) ≤ 16896
-      rows-inside = let f = few in row-room i (s .width) (let z : i < 64 = omega arith in z) (x .narrow)
-
-      rows-one : (pre′ : List ℕ) (r : ℕ) → length pre ≡ 16896 → length len ≡ 64 → r ≡ l + length (prefix s m)
-          → pre′ ≡ sets pre (i * (4 * s .width + 8)) (take l (drop (u * (4 * s .width + 8)) pre) ++ prefix s m)
-          → RowsTo s pre′ (set len i r) (i + 1)
-      rows-one pre′ r hp hl er ep =
-          let R = 4 * s .width + 8 in
-          let f = few in
-          let P = prefixesOf s i in
-          let same-row : take l (drop (u * R) pre) ≡ prefixesOf s u = rw before-is (g .bytes u around-low) in
-          let put : pre′ ≡ sets pre (i * R) P = ep ∙ ap (sets pre (i * R)) (ap (λ (k : List ℕ). k ++ prefix s m) same-row ∙ sym row-is) in
-          let long : length P ≡ r = ap length row-is ∙ (length-append (prefixesOf s u) (prefix s m) ∙ omega (arith, before-is)) in
-          record {
-            lengths = λ k h. three k i
-                (λ v. getD-set-other len i k r 0 (λ q. omega arith) ∙ g .lengths k v)
-                (λ v. rw v (getD-set-same len i r 0 (omega arith) ∙ sym long))
-                (λ v. absurd (omega arith));
-            bytes = λ k h. three k i
-                (λ v.
-                let y : k < length (instances s) = omega arith in
-                let b : k * R + length (prefixesOf s k) ≤ i * R = omega (arith, rows-below k i R v, prefixes-short s x k y) in
-                ap (λ (o : List ℕ). take (length (prefixesOf s k)) (drop (k * R) o)) put
-                ∙ (part-before P (k * R) (length (prefixesOf s k)) pre (i * R) b ∙ g .bytes k v))
-                (λ v.
-                rw v
-                (ap (λ (o : List ℕ). take (length P) (drop (i * R) o)) put
-                ∙ part-there P pre (i * R) (omega (arith, rows-inside, row-fits))))
-                (λ v. absurd (omega arith));
-          }
-
-      rowed-one : (pre′ : List ℕ) (r : ℕ) → length pre ≡ 16896 → length len ≡ 64 → r ≡ l + length (prefix s m)
-          → pre′ ≡ sets pre (i * (4 * s .width + 8)) (take l (drop (u * (4 * s .width + 8)) pre) ++ prefix s m)
-          → Rowed s pre′ (set len i r) n (i + 1)
-      rowed-one pre′ r hp hl er ep = record {
-        rows = rows-one pre′ r hp hl er ep;
+module _ {s : Recipe} {t inst : List ℕ} {n : ℕ} (x : Planted s t inst n) where
+  -- main's row is empty
+  pub rowed-start : (pre len : List ℕ) → n * rowWidth (s .width) ≤ length pre → n ≤ length len → Rowed s pre (set len 0 0) pre (set len 0 0) n 1
+  rowed-start pre len a b =
+      let e = x .rows .count in
+      let some = some-instance s in
+      record {
+        rows = record {
+          room = rw (← e) a;
+          counted = omega (arith, length-set len 0 0);
+          lengths = λ i l. let z : i ≡ 0 = omega arith in rw (z, main-prefixes s) (getD-set-same len 0 0 0 (omega arith));
+          bytes = λ i l. let z : i ≡ 0 = omega arith in rw (z, main-prefixes s);
+        };
         below = omega arith;
         above = omega arith;
-        long = sets-long pre′ pre (i * (4 * s .width + 8)) (take l (drop (u * (4 * s .width + 8)) pre) ++ prefix s m) ep ∙ hp;
-        lens = length-set len i r ∙ hl;
+        long = refl;
+        lens = refl;
       }
 
--- ---- a turn of the loop, as it asks it
-pub low-number : {s : Recipe} {n i : ℕ} → Naming s → n ≡ length (instances s) → i < n → i < 64
-low-number {s} x c l = omega (arith, instances-few s x)
+  pub rowed-end : {pre₀ len₀ pre len : List ℕ} {i : ℕ} → Rowed s pre₀ len₀ pre len n i → n ≤ i → Prefixed s pre len
+  rowed-end {pre₀} {len₀} {pre} {len} {i} g h = let z : i ≡ length (instances s) = omega (arith, x .rows .count, g .below) in rw z at (g .rows)
 
-pub around-first : {s : Recipe} (inst : List ℕ) {n i u : ℕ} → Naming s → Above s inst n → i < n → 0 < i → u ≡ getD inst (5 * i + 4) 0 → u < i
-around-first inst {n} {i} x above l h e = omega (arith, above i l h .0)
+  pub around-low : {i u : ℕ} → i < n → 0 < i → u ≡ getD inst (6 * i + 4) 0 → u < i
+  around-low {i} low pos e = omega (arith, x .rows .below i low pos)
 
-pub record Turn (s : Recipe) (i m u l : ℕ) : Type 0 where
+-- ---- a turn: the row of instance i, of submodel m, behind that of u
+pub record Turn (s : Recipe) (pre len : List ℕ) (i m u l row : ℕ) : Type 0 where
   pub submodel : In m (submodels s (holder s m))
-  pub fits : l + length (prefix s m) ≤ 4 * s .width + 8
-  pub apart : u * (4 * s .width + 8) + (4 * s .width + 8) ≤ i * (4 * s .width + 8)
-  pub inside : i * (4 * s .width + 8) + (4 * s .width + 8) ≤ 16896
+  pub fits : l + length (prefix s m) ≤ row
+  pub apart : u * row + row ≤ i * row
+  pub inside : i * row + row ≤ length pre
+  pub counted : i < length len
+  pub row-is : prefixesOf s i ≡ prefixesOf s u ++ prefix s m
+  pub before-is : l ≡ length (prefixesOf s u)
 
-module _ {s : Recipe} {pre len : List ℕ} {n i : ℕ} (x : Naming s) (count : n ≡ length (instances s)) (inst : List ℕ) (above : Above s inst n)
-    (g : Rowed s pre len n i) (low : i < n) {m u l : ℕ} (em : m ≡ getD inst (5 * i + 3) 0) (eu : u ≡ getD inst (5 * i + 4) 0) (el : l ≡ getD len u 0) where
-  pub turn : Turn s i m u l
-  turn = record {
-    submodel = is-submodel s x inst n count above i low (g .above) m u em eu;
-    fits = row-fits s x inst n count above i low (g .above) m u em eu pre len (g .rows) l el;
-    apart = rows-apart s x inst n count above i low (g .above) m u em eu pre len (g .rows) l el;
-    inside = rows-inside s x inst n count above i low (g .above) m u em eu pre len (g .rows) l el;
-  }
+module _ {s : Recipe} {t inst pre₀ len₀ pre len : List ℕ} {n i : ℕ} (x : Planted s t inst n) (g : Rowed s pre₀ len₀ pre len n i) (low : i < n)
+    {m u l row : ℕ} (em : m ≡ getD inst (6 * i + 3) 0) (eu : u ≡ getD inst (6 * i + 4) 0) (el : l ≡ getD len u 0) (er : row ≡ rowWidth (s .width)) where
+  pub turn : Turn s pre len i m u l row
+  unfolding prefixesOf
+  turn =
+      let under : u < i = around-low x low (g .above) eu in
+      let z : i < length (instances s) = omega (arith, x .rows .count) in
+      let path-is : getD (instances s) i [] ≡ getD (instances s) u [] ++ (m ∷ []) = x .rows .above i low (g .above) ∙ sym (rw (em, eu)) in
+      let row-is : prefixesOf s i ≡ prefixesOf s u ++ prefix s m =
+      ap (λ (path : List ℕ). joined (map (prefix s) path)) path-is ∙ joined-last (prefix s) (getD (instances s) u []) m in
+      let before-is : l ≡ length (prefixesOf s u) = el ∙ g .rows .lengths u under in
+      let here = row-inside (g .rows) z in
+      record {
+        submodel = last-submodel s main (getD (instances s) u []) m (rw path-is at (instance-path s (getD (instances s) i []) (getD-in (instances s) i [] z)));
+        fits = omega (arith, ap length row-is, length-append (prefixesOf s u) (prefix s m), prefixes-short s (naming x) i z);
+        apart = rows-below u i row under;
+        inside = rw er (here .1);
+        counted = here .0;
+        row-is = row-is;
+        before-is = before-is;
+      }
 
-  pub turned : {pre′ : List ℕ} {r : ℕ} → r ≡ l + length (prefix s m)
-      → pre′ ≡ sets pre (i * (4 * s .width + 8)) (take l (drop (u * (4 * s .width + 8)) pre) ++ prefix s m) → Rowed s pre′ (set len i r) n (i + 1)
-  turned {pre′} {r} er ep = rowed-one s x inst n count above i low (g .above) m u em eu pre len (g .rows) l el pre′ r (g .long) (g .lens) er ep
+  pub turned : {pre′ : List ℕ} {r : ℕ} → r ≡ l + length (prefix s m) → pre′ ≡ sets pre (i * row) (take l (drop (u * row) pre) ++ prefix s m)
+      → Rowed s pre₀ len₀ pre′ (set len i r) n (i + 1)
+  turned {pre′} {r} er′ ep =
+      let T = turn in
+      let R = rowWidth (s .width) in
+      let P = prefixesOf s i in
+      let under : u < i = around-low x low (g .above) eu in
+      let same-row : take l (drop (u * row) pre) ≡ prefixesOf s u = rw (er, T .before-is) (g .rows .bytes u under) in
+      let put : pre′ ≡ sets pre (i * R) P = ep ∙ rw (same-row, er, T .row-is) in
+      let size : length P ≡ r = ap length (T .row-is) ∙ (length-append (prefixesOf s u) (prefix s m) ∙ omega (arith, T .before-is)) in
+      let long : length pre′ ≡ length pre = sets-long pre′ pre (i * R) P put in
+      record {
+        rows = record {
+          room = rw long (g .rows .room);
+          counted = rw length-set (g .rows .counted);
+          lengths = λ k h. three k i
+              (λ v. getD-set-other len i k r 0 (λ q. omega arith) ∙ g .rows .lengths k v)
+              (λ v. rw v (getD-set-same len i r 0 (T .counted) ∙ sym size))
+              (λ v. absurd (omega arith));
+          bytes = λ k h. three k i
+              (λ v.
+              let y : k < length (instances s) = omega (arith, x .rows .count) in
+              let b : k * R + length (prefixesOf s k) ≤ i * R = omega (arith, rows-below k i R v, prefixes-short s (naming x) k y) in
+              ap (λ (o : List ℕ). take (length (prefixesOf s k)) (drop (k * R) o)) put
+              ∙ (part-before P (k * R) (length (prefixesOf s k)) pre (i * R) b ∙ g .rows .bytes k v))
+              (λ v.
+              rw v
+              (ap (λ (o : List ℕ). take (length P) (drop (i * R) o)) put
+              ∙ part-there P pre (i * R) (let z : i * R + r ≤ length pre = omega (arith, rw er at (T .inside), rw er at (T .fits)) in omega arith)))
+              (λ v. absurd (omega arith));
+        };
+        below = omega arith;
+        above = omega arith;
+        long = long ∙ g .long;
+        lens = length-set len i r ∙ g .lens;
+      }

@@ -23,9 +23,9 @@ use Rattle.recipe.proofs.Going.{class-low}
 use Rattle.recipe.proofs.Reading.{readable, readable-fits, next-more, place-low, before-this}
 use Rattle.recipe.proofs.RecordLengths.{length-submodel}
 use Rattle.recipe.proofs.Spans.{Rest, rest-start, met, met-fits, rest-more, rest-skip, holder-above, holder-below, holder-rise, definition-place, definition-fits}
+use Rattle.shadow.specs.Columns.{Numbered, Linked}
 use Rattle.flat_names.specs.Prefixes.{declaredNames, namesAround, fewest}
 use Rattle.flat_names.specs.Underscores.{runFirst, runBehind, longest}
-use Rattle.flat_names.specs.Rows.{Naming, Holds, Tables}
 use Rattle.flat_names.proofs.Prefixes.{Count}
 use Rattle.flat_names.proofs.OneName.{prefix-count}
 use Rattle.flat_names.proofs.Underscores.{text-nonzero, behind-field, behind-other, longest-is, longest-append, count-longest}
@@ -256,20 +256,20 @@ module _ (s : Recipe) (whole : stop s ≡ length (s .bytes)) (d m : ℕ) (i : In
       look-more : isDeclared s p ≡ true → (u c : ℕ) → u ≡ runBehind (name s m) (name s p) → c ≡ max b u → Look s d m (p + n) c
       look-more k u c e f = rw on-next (look-added k u c e f)
 
--- ---- as the loop asks it, with the table of holders
-module _ {s : Recipe} {d m p b : ℕ} (x : Naming s) (i : In d (definitions s)) (g : Look s d m p b) where
+-- ---- as the loop asks it, with the shadow
+module _ {s : Recipe} {t : List ℕ} {d m p b : ℕ} (x : Numbered s t) (i : In d (definitions s)) (g : Look s d m p b) where
   pub at-end : length (s .bytes) ≤ p → b ≡ longest (name s m) (declaredNames s d)
-  at-end l = look-end s (x .whole) d m i g l
+  at-end l = look-end s (x .shadowed .whole) d m i g l
 
-  module _ (hold : List ℕ) (holds : Holds s hold) (l : p < length (s .bytes)) {h : ℕ} (e : h ≡ getD hold p 0) where
+  module _ (l : p < length (s .bytes)) {h : ℕ} (e : h ≡ getD t (p + 0) 0) where
     held-by : h ≡ holder s p
-    held-by = e ∙ holds p (look-place s (x .whole) d m i g l)
+    held-by = e ∙ x .held p (look-place s (x .shadowed .whole) d m i g l)
 
     pub at-other : (h ≡ d → ⊥) → b ≡ longest (name s m) (declaredNames s d)
-    at-other other = look-stop s (x .whole) d m i g l (λ q. other (held-by ∙ q))
+    at-other other = look-stop s (x .shadowed .whole) d m i g l (λ q. other (held-by ∙ q))
 
     pub at-own : h ≡ d → Own s d m p b
-    at-own q = record { whole = x .whole; defined = i; look = g; low = l; held = sym held-by ∙ q }
+    at-own q = record { whole = x .shadowed .whole; defined = i; look = g; low = l; held = sym held-by ∙ q }
 
 module _ {s : Recipe} {d m p b : ℕ} (o : Own s d m p b) where
   pub own-declared : eqb (getD (s .bytes) p 0) 2 || eqb (getD (s .bytes) p 0) 4 ≡ true → p + 1 + s .width ≤ length (s .bytes)
@@ -290,40 +290,39 @@ module _ {s : Recipe} {d m p b : ℕ} (o : Own s d m p b) where
     own-more k {u} {c} e f = look-more s (o .whole) d m (o .defined) (o .look) (o .low) (o .held) n len (declared-is s p k) u c e f
 
 -- ---- both definitions: the one that holds m, and its model
-module _ (s : Recipe) (x : Naming s) (m : ℕ) (i : In m (submodels s (holder s m))) where
-  pub the-count : Count (s .width) (namesAround s m) (name s m) (fewest (s .width) (namesAround s m) (name s m))
-  the-count = let w = x .wide in prefix-count s (let t : 2 ≤ s .width = omega arith in t) (x .formed) (holder s m) m i
+pub record Both (s : Recipe) (m d e : ℕ) : Type 0 where
+  pub outer : d ≡ holder s m
+  pub inner : e ≡ modelOf s m
+  pub outer-in : In d (definitions s)
+  pub inner-in : In e (definitions s)
 
+module _ {s : Recipe} {t : List ℕ} (x : Linked s t) (m : ℕ) (i : In m (submodels s (holder s m))) where
   placed : In m (places s)
   placed = in-submodels s (holder s m) m i .placed
 
   pub own-room : m + 1 + s .width ≤ length (s .bytes)
   own-room = submodel-room s m placed (in-submodels s (holder s m) m i .passes)
 
-  -- by the tables
-  pub outer-is : (hold model : List ℕ) → Tables s hold model → (d : ℕ) → d ≡ getD hold m 0 → d ≡ holder s m
-  outer-is hold model t d e = e ∙ t .holds m placed
+  -- by the shadow
+  pub both-in : {d e : ℕ} → d ≡ getD t (m + 0) 0 → e ≡ getD t (m + 3) 0 → Both s m d e
+  both-in {d} {e} f g =
+      let outer : d ≡ holder s m = f ∙ x .numbered .held m placed in
+      let inner : e ≡ modelOf s m = g ∙ x .models m placed (in-submodels s (holder s m) m i .passes) in
+      record { outer = outer; inner = inner; outer-in = rw outer (holder-in s m placed); inner-in = rw inner (model-in s (holder s m) m i) }
 
-  pub inner-is : (hold model : List ℕ) → Tables s hold model → (d : ℕ) → d ≡ getD model m 0 → d ≡ modelOf s m
-  inner-is hold model t d e = e ∙ t .models m placed (in-submodels s (holder s m) m i .passes)
+  the-count : Count (s .width) (namesAround s m) (name s m) (fewest (s .width) (namesAround s m) (name s m))
+  the-count = let w = x .numbered .shadowed .wide in prefix-count s (let t : 2 ≤ s .width = omega arith in t) (x .row₃) (holder s m) m i
 
-  pub outer-in : (d : ℕ) → d ≡ holder s m → In d (definitions s)
-  outer-in d e = rw e (holder-in s m placed)
-
-  pub inner-in : (d : ℕ) → d ≡ modelOf s m → In d (definitions s)
-  inner-in d e = rw e (model-in s (holder s m) m i)
-
-  module _ (a b d e : ℕ) (hd : d ≡ holder s m) (he : e ≡ modelOf s m)
-      (f : a ≡ longest (name s m) (declaredNames s d)) (g : b ≡ longest (name s m) (declaredNames s e)) where
+  module _ {a b d e : ℕ} (h : Both s m d e) (f : a ≡ longest (name s m) (declaredNames s d)) (g : b ≡ longest (name s m) (declaredNames s e)) where
     around : fewest (s .width) (namesAround s m) (name s m) ≡ max 2 (max a b + 1)
     unfolding namesAround
     around =
         count-longest the-count
         ∙ ap (λ (k : ℕ). max 2 (k + 1))
-        (longest-append (name s m) (declaredNames s (holder s m)) (declaredNames s (modelOf s m)) ∙ rw (f, g, hd, he))
+        (longest-append (name s m) (declaredNames s (holder s m)) (declaredNames s (modelOf s m)) ∙ rw (f, g, h .outer, h .inner))
 
-    pub fewest-is : (c r : ℕ) → c ≡ max a b → r ≡ max 2 (c + 1) → r ≡ fewest (s .width) (namesAround s m) (name s m)
-    fewest-is c r h k = omega (arith, around)
+    pub fewest-is : {c r : ℕ} → c ≡ max a b → r ≡ max 2 (c + 1) → r ≡ fewest (s .width) (namesAround s m) (name s m)
+    fewest-is {c} {r} j k = omega (arith, around)
 
-    pub fewest-low : (c : ℕ) → c ≡ max a b → c + 1 ≤ 64
-    fewest-low c h = let n = x .narrow in omega (arith, around, the-count .most)
+    pub fewest-low : max a b + 1 ≤ 64
+    fewest-low = let n = x .numbered .shadowed .narrow in omega (arith, around, the-count .most)

@@ -3,16 +3,13 @@
 use mathlib.Core.Path.{_≡_, refl, sym, ap, _∙_}
 use Prim.Native.Nat.{ℕ, _+_, _*_, _-_, _≤_, _<_}
 use native.Mathlib.Omega.{arith}
-use native.Mathlib.Nat.{mul-le-mul-left, mul-le-mul-right}
+use native.Mathlib.Nat.{mul-le-mul-left, mul-le-mul-right, suc-mul}
 use mathlib.Core.List.{List, [], _++_, append-assoc}
 use lib.ListN.{length, getD, set, take, drop, replicate, length-append, length-set, length-drop, length-replicate, replicate-append-replicate}
 use lib.Seq.{sets, length-take-le}
-use lib.Dec.{ltb}
-use borrow.Author.Tests.{ltb-false}
 use Rattle.names.specs.Lists.{In, padded}
 use Rattle.names.specs.Names.{fieldAt}
 use Rattle.names.proofs.Names.{name-padding}
-use Rattle.names.proofs.Tests.{or-none-left}
 use Rattle.names.proofs.Stores.{sets-append, put-one}
 use Rattle.names.proofs.Lists.{getD-in}
 use Rattle.flat_table.specs.Table.{flatWidth}
@@ -20,13 +17,12 @@ use Rattle.recipe.specs.Records.{Recipe, field, firstField, name}
 use Rattle.recipe.specs.Definitions.{main, elements}
 use Rattle.recipe.proofs.Definitions.{in-elements, name-short}
 use Rattle.recipe.proofs.Going.{class-low}
-use Rattle.recipe.proofs.Rows.{not-at-start, first-name}
+use Rattle.recipe.proofs.Rows.{first-name}
 use Rattle.tree.specs.Tree.{instances, node, treeElements, definitionAt, Submodels}
-use Rattle.tree.specs.Faults.{fault₇, isTooLarge, mostInstances}
 use Rattle.tree.proofs.Nodes.{in-tree}
 use Rattle.tree.proofs.Instances.{instance-path, at-most-four}
 use Rattle.flat_names.specs.Prefixes.{flatName}
-use Rattle.flat_names.specs.Rows.{Naming, Prefixed, prefixesOf, rowWidth}
+use Rattle.flat_names.specs.Rows.{Naming, Prefixed, RowsTo, prefixesOf, rowWidth}
 use Rattle.flat_names.proofs.Lengths.{prefixes-bytes}
 
 -- k times x is written
@@ -67,17 +63,21 @@ padded-parts w p n hp hn =
     ∙ (ap (λ (k : List ℕ). p ++ n ++ k) (replicate-append-replicate (w - length n) (4 * w + 8 - length p) 0)
     ∙ ap (λ (k : ℕ). p ++ n ++ replicate k 0) z)))
 
--- a row lies in the table of 64
-pub row-room : (i w : ℕ) → i < 64 → w ≤ 64 → i * (4 * w + 8) + (4 * w + 8) ≤ 16896
-row-room i w h l =
-    let a : i * (4 * w + 8) ≤ 63 * (4 * w + 8) = mul-le-mul-right (4 * w + 8) (let g : i ≤ 63 = omega arith in g) in
-    omega arith
+-- ---- rows lie apart, and 64 of them have room
+pub rows-below : (u i r : ℕ) → u < i → u * r + r ≤ i * r
+rows-below u i r h = rw (← suc-mul) (mul-le-mul-right r h)
+
+pub rows-room : (n w : ℕ) → n ≤ 64 → w ≤ 64 → n * rowWidth w ≤ 16896
+rows-room n w h l = let a : n * (4 * w + 8) ≤ 64 * (4 * w + 8) = mul-le-mul-right (4 * w + 8) h in omega arith
+
+pub row-inside : {s : Recipe} {pre len : List ℕ} {n i : ℕ} → RowsTo s pre len n → i < length (instances s)
+    → (i < length len) × (i * rowWidth (s .width) + rowWidth (s .width) ≤ length pre)
+row-inside {s} {pre} {len} {n} {i} t h =
+    (omega (arith, t .counted), (let z : i * rowWidth (s .width) + rowWidth (s .width) ≤ length pre = omega (arith, t .room, rows-below i (length (instances s)) (rowWidth (s .width)) h) in z))
 
 -- ---- a flat name, of the element at q in instance i
 pub record NameAt (s : Recipe) (i q : ℕ) : Type 0 where
-  pub low : i < 64
-  pub short : length (prefixesOf s i) ≤ 4 * s .width + 8
-  pub row : i * (4 * s .width + 8) + (4 * s .width + 8) ≤ 16896
+  pub short : length (prefixesOf s i) ≤ rowWidth (s .width)
   pub inside : q + 1 + s .width < length (s .bytes)
   pub reads : take (s .width) (drop (q + 1) (s .bytes)) ≡ padded (s .width) (name s q)
   pub named : flatName s (node (getD (instances s) i []) q) ≡ prefixesOf s i ++ name s q
@@ -87,13 +87,7 @@ unfolding flatWidth
 field-room w at n h = h
 
 module _ (s : Recipe) (x : Naming s) where
-  pub instances-few : length (instances s) ≤ 64
-  unfolding fault₇ isTooLarge mostInstances
-  instances-few =
-      let n = not-at-start (isTooLarge s) (x .small) in
-      ltb-false 64 (length (instances s)) (or-none-left (ltb 64 (length (instances s))) _ (or-none-left _ _ n))
-
-  pub prefixes-short : (i : ℕ) → i < length (instances s) → length (prefixesOf s i) ≤ 4 * s .width + 8
+  pub prefixes-short : (i : ℕ) → i < length (instances s) → length (prefixesOf s i) ≤ rowWidth (s .width)
   unfolding prefixesOf
   prefixes-short i h =
       let w = x .wide in
@@ -117,20 +111,16 @@ module _ (s : Recipe) (x : Naming s) where
   pub name-at : (i q : ℕ) → i < length (instances s) → In (node (getD (instances s) i []) q) (treeElements s) → NameAt s i q
   unfolding node flatName prefixesOf
   name-at i q h e =
-      let few = instances-few in
-      let m = x .narrow in
       let path = getD (instances s) i [] in
       let k : In q (elements s (definitionAt s path)) = in-tree s (node path q) e .1 in
       record {
-        low = omega arith;
         short = prefixes-short i h;
-        row = row-room i (s .width) (let g : i < 64 = omega arith in g) m;
         inside = element-low (definitionAt s path) q k;
         reads = element-field (definitionAt s path) q k;
         named = refl;
       }
 
-  pub row-short : (pre len : List ℕ) (i l : ℕ) → Prefixed s pre len → i < length (instances s) → l ≡ getD len i 0 → l ≤ 4 * s .width + 8
+  pub row-short : (pre len : List ℕ) (i l : ℕ) → Prefixed s pre len → i < length (instances s) → l ≡ getD len i 0 → l ≤ rowWidth (s .width)
   row-short pre len i l t h c = omega (arith, t .lengths i h, prefixes-short i h)
 
   pub put-name : (pre len : List ℕ) (i q : ℕ) (out o₁ o₂ o₃ : List ℕ) (at l : ℕ) → Prefixed s pre len → i < length (instances s)

@@ -1,5 +1,5 @@
 // Flat names: the prefix of each instance, and the flat name of an element, written into a table.
-// For the floors above: put_zeros, put_name, fill_prefixes. They take the name width w, 10 to 64, and the tables of the floors below.
+// For the floors above: put_zeros, put_name, fill_prefixes, and the sizes of the table of prefixes. They take the name width w, 12 to 64, the shadow, and the rows of the instances.
 ghost use mathlib.Core.Path.{_≡_};
 ghost use Prim.Native.Nat.{_+_, _*_, _≤_, _<_, max};
 ghost use mathlib.Core.List.{[], _++_};
@@ -7,13 +7,38 @@ ghost use lib.ListN.{length, getD, take, drop, replicate};
 ghost use lib.Seq.{sets};
 ghost use Rattle.names.specs.Lists.{In, padded};
 ghost use Rattle.flat_table.specs.Table.{flatWidth};
-ghost use Rattle.recipe.specs.Records.{Recipe, name};
+ghost use Rattle.recipe.specs.Records.{recipeAt, name};
 ghost use Rattle.recipe.specs.Definitions.{definitions, holder, submodels};
 ghost use Rattle.tree.specs.Tree.{instances, node, treeElements};
-ghost use Rattle.tree.specs.Numbers.{Above};
+ghost use Rattle.tree.specs.Planted.{Planted};
+ghost use Rattle.shadow.specs.Columns.{Numbered, Linked};
 ghost use Rattle.flat_names.specs.Prefixes.{declaredNames, namesAround, fewest, prefix, flatName};
 ghost use Rattle.flat_names.specs.Underscores.{runFirst, runBehind, longest};
-ghost use Rattle.flat_names.specs.Rows.{Naming, Holds, Tables, Prefixed};
+ghost use Rattle.flat_names.specs.Rows.{Naming, Prefixed, rowWidth};
+use shadow::cell;
+
+// The most rows, one for each instance, and their bytes, for names of 64 bytes.
+pub const PREFIX_ROWS: usize = 64;
+
+pub const PREFIX_BYTES: usize = 16896;
+
+const UNDERSCORE: u8 = 95;
+
+// The bytes of a row: four prefixes of w + 2.
+fn row_width(w: usize) -> usize
+    requires { ⌜ w ≤ 64 ⌝ }
+    ensures { λ r. ⌜ r ≡ rowWidth w ⌝ }
+{
+    4 * w + 8
+}
+
+// How many bytes of row i are filled.
+fn row_length(len: &[u16], i: usize) -> usize
+    requires { ⌜ i < length (now len) ⌝ }
+    ensures { λ r. ⌜ r ≡ getD (now (len .entry)) i 0 ⌝ }
+{
+    recipe::wide(len[i])
+}
 
 // Writes n times x from `at` on.
 fn put_same(out: &mut [u8], at: usize, n: usize, x: u8)
@@ -39,20 +64,21 @@ pub fn put_zeros(out: &mut [u8], at: usize, n: usize)
 pub fn put_name(
     s: &[u8],
     w: usize,
-    pre: &[u8; 16896],
-    len: &[u16; 64],
+    pre: &[u8],
+    len: &[u16],
     i: usize,
     q: usize,
     out: &mut [u8],
     at: usize,
 )
-    requires { ⌜ Naming (record { width = w; bytes = now s }) × (Prefixed (record { width = w; bytes = now s }) (now pre) (now len) × ((i < length (instances (record { width = w; bytes = now s }))) × (In (node (getD (instances (record { width = w; bytes = now s })) i []) q) (treeElements (record { width = w; bytes = now s })) × (at + flatWidth w ≤ length (now out))))) ⌝ }
-    ensures { λ _. ⌜ now (out .exit) ≡ sets (now (out .entry)) at (padded (flatWidth w) (flatName (record { width = w; bytes = now (s .entry) }) (node (getD (instances (record { width = w; bytes = now (s .entry) })) i []) q))) ⌝ }
+    requires { ⌜ Naming (recipeAt w (now s)) × (Prefixed (recipeAt w (now s)) (now pre) (now len) × ((i < length (instances (recipeAt w (now s)))) × (In (node (getD (instances (recipeAt w (now s))) i []) q) (treeElements (recipeAt w (now s))) × (at + flatWidth w ≤ length (now out))))) ⌝ }
+    ensures { λ _. ⌜ now (out .exit) ≡ sets (now (out .entry)) at (padded (flatWidth w) (flatName (recipeAt w (now (s .entry))) (node (getD (instances (recipeAt w (now (s .entry)))) i []) q))) ⌝ }
 {
-    let l = recipe::wide(len[i]);
-    names::put_bytes(pre, i * (4 * w + 8), l, out, at);
+    let row = row_width(w);
+    let l = row_length(len, i);
+    names::put_bytes(pre, i * row, l, out, at);
     names::put_bytes(s, q + 1, w, out, at + l);
-    put_zeros(out, at + (l + w), 4 * w + 8 - l);
+    put_zeros(out, at + (l + w), row - l);
 }
 
 // The larger of two numbers.
@@ -68,7 +94,7 @@ fn larger(a: usize, b: usize) -> usize
 // How many bytes the name of the record at p has.
 fn name_length(s: &[u8], w: usize, p: usize) -> usize
     requires { ⌜ p + 1 + w ≤ length (now s) ⌝ }
-    ensures { λ r. ⌜ r ≡ length (name (record { width = w; bytes = now (s .entry) }) p) ⌝ }
+    ensures { λ r. ⌜ r ≡ length (name (recipeAt w (now (s .entry))) p) ⌝ }
 {
     let a = p + 1;
     let t = names::unpadded(&s[a..a + w]);
@@ -82,7 +108,7 @@ fn count_underscores(s: &[u8], a: usize, n: usize) -> usize
 {
     let mut k = 0;
     while k < n {
-        if s[a + k] != 95 {
+        if s[a + k] != UNDERSCORE {
             return k;
         }
         k += 1;
@@ -92,8 +118,8 @@ fn count_underscores(s: &[u8], a: usize, n: usize) -> usize
 
 // How many underscores follow the name of m, of n bytes, in the name of p, if that begins with it.
 fn run_behind(s: &[u8], w: usize, p: usize, m: usize, n: usize) -> usize
-    requires { ⌜ (p + 1 + w ≤ length (now s)) × ((m + 1 + w ≤ length (now s)) × (n ≡ length (name (record { width = w; bytes = now s }) m))) ⌝ }
-    ensures { λ r. ⌜ r ≡ runBehind (name (record { width = w; bytes = now (s .entry) }) m) (name (record { width = w; bytes = now (s .entry) }) p) ⌝ }
+    requires { ⌜ (p + 1 + w ≤ length (now s)) × ((m + 1 + w ≤ length (now s)) × (n ≡ length (name (recipeAt w (now s)) m))) ⌝ }
+    ensures { λ r. ⌜ r ≡ runBehind (name (recipeAt w (now (s .entry))) m) (name (recipeAt w (now (s .entry))) p) ⌝ }
 {
     let a = p + 1;
     let b = m + 1;
@@ -104,14 +130,14 @@ fn run_behind(s: &[u8], w: usize, p: usize, m: usize, n: usize) -> usize
 }
 
 // The longest run of underscores behind the name of m, of n bytes, in the names of definition d.
-fn longest_run(s: &[u8], w: usize, hold: &[u16; 16384], d: usize, m: usize, n: usize) -> usize
-    requires { ⌜ Naming (record { width = w; bytes = now s }) × (Holds (record { width = w; bytes = now s }) (now hold) × (In d (definitions (record { width = w; bytes = now s })) × ((m + 1 + w ≤ length (now s)) × (n ≡ length (name (record { width = w; bytes = now s }) m))))) ⌝ }
-    ensures { λ r. ⌜ r ≡ longest (name (record { width = w; bytes = now (s .entry) }) m) (declaredNames (record { width = w; bytes = now (s .entry) }) d) ⌝ }
+fn longest_run(s: &[u8], w: usize, t: &[u16], d: usize, m: usize, n: usize) -> usize
+    requires { ⌜ Numbered (recipeAt w (now s)) (now t) × (In d (definitions (recipeAt w (now s))) × ((m + 1 + w ≤ length (now s)) × (n ≡ length (name (recipeAt w (now s)) m)))) ⌝ }
+    ensures { λ r. ⌜ r ≡ longest (name (recipeAt w (now (s .entry))) m) (declaredNames (recipeAt w (now (s .entry))) d) ⌝ }
 {
     let mut best = 0;
     let mut p = d + recipe::record_length(1, w);
     while p < s.len() {
-        if recipe::wide(hold[p]) != d {
+        if cell(t, p, shadow::DEFINITION_OF) != d {
             return best;
         }
         let k = s[p];
@@ -127,27 +153,21 @@ fn longest_run(s: &[u8], w: usize, hold: &[u16; 16384], d: usize, m: usize, n: u
 }
 
 // The underscores of the prefix of the submodel m: in one look at the names of the definition that holds it, and of its model.
-fn fewest_underscores(
-    s: &[u8],
-    w: usize,
-    hold: &[u16; 16384],
-    model: &[u16; 16384],
-    m: usize,
-) -> usize
-    requires { ⌜ Naming (record { width = w; bytes = now s }) × (Tables (record { width = w; bytes = now s }) (now hold) (now model) × In m (submodels (record { width = w; bytes = now s }) (holder (record { width = w; bytes = now s }) m))) ⌝ }
-    ensures { λ r. ⌜ r ≡ fewest w (namesAround (record { width = w; bytes = now (s .entry) }) m) (name (record { width = w; bytes = now (s .entry) }) m) ⌝ }
+fn fewest_underscores(s: &[u8], w: usize, t: &[u16], m: usize) -> usize
+    requires { ⌜ Linked (recipeAt w (now s)) (now t) × In m (submodels (recipeAt w (now s)) (holder (recipeAt w (now s)) m)) ⌝ }
+    ensures { λ r. ⌜ r ≡ fewest w (namesAround (recipeAt w (now (s .entry))) m) (name (recipeAt w (now (s .entry))) m) ⌝ }
 {
     let n = name_length(s, w, m);
-    let outer = recipe::wide(hold[m]);
-    let inner = recipe::wide(model[m]);
-    let a = longest_run(s, w, hold, outer, m, n);
-    let b = longest_run(s, w, hold, inner, m, n);
+    let outer = cell(t, m, shadow::DEFINITION_OF);
+    let inner = cell(t, m, shadow::MODEL);
+    let a = longest_run(s, w, t, outer, m, n);
+    let b = longest_run(s, w, t, inner, m, n);
     larger(2, larger(a, b) + 1)
 }
 
 // Copies l bytes of the table, from `from` on, to `to`, which is behind them.
-fn copy_row(pre: &mut [u8; 16896], from: usize, l: usize, to: usize)
-    requires { ⌜ (length (now pre) ≡ 16896) × ((from + l ≤ to) × (to + l ≤ 16896)) ⌝ }
+fn copy_row(pre: &mut [u8], from: usize, l: usize, to: usize)
+    requires { ⌜ (from + l ≤ to) × (to + l ≤ length (now pre)) ⌝ }
     ensures { λ _. ⌜ now (pre .exit) ≡ sets (now (pre .entry)) to (take l (drop from (now (pre .entry)))) ⌝ }
 {
     let mut k = 0;
@@ -161,22 +181,21 @@ fn copy_row(pre: &mut [u8; 16896], from: usize, l: usize, to: usize)
 fn put_row(
     s: &[u8],
     w: usize,
-    hold: &[u16; 16384],
-    model: &[u16; 16384],
+    t: &[u16],
     m: usize,
-    pre: &mut [u8; 16896],
+    pre: &mut [u8],
     from: usize,
     l: usize,
     to: usize,
 ) -> usize
-    requires { ⌜ Naming (record { width = w; bytes = now s }) × (Tables (record { width = w; bytes = now s }) (now hold) (now model) × (In m (submodels (record { width = w; bytes = now s }) (holder (record { width = w; bytes = now s }) m)) × ((length (now pre) ≡ 16896) × ((from + l ≤ to) × (to + (l + length (prefix (record { width = w; bytes = now s }) m)) ≤ 16896))))) ⌝ }
-    ensures { λ r. ⌜ (r ≡ l + length (prefix (record { width = w; bytes = now (s .entry) }) m)) × (now (pre .exit) ≡ sets (now (pre .entry)) to (take l (drop from (now (pre .entry))) ++ prefix (record { width = w; bytes = now (s .entry) }) m)) ⌝ }
+    requires { ⌜ Linked (recipeAt w (now s)) (now t) × (In m (submodels (recipeAt w (now s)) (holder (recipeAt w (now s)) m)) × ((from + l ≤ to) × (to + (l + length (prefix (recipeAt w (now s)) m)) ≤ length (now pre)))) ⌝ }
+    ensures { λ r. ⌜ (r ≡ l + length (prefix (recipeAt w (now (s .entry))) m)) × (now (pre .exit) ≡ sets (now (pre .entry)) to (take l (drop from (now (pre .entry))) ++ prefix (recipeAt w (now (s .entry))) m)) ⌝ }
 {
     let n = name_length(s, w, m);
-    let u = fewest_underscores(s, w, hold, model, m);
+    let u = fewest_underscores(s, w, t, m);
     copy_row(pre, from, l, to);
     names::put_bytes(s, m + 1, n, pre, to + l);
-    put_same(pre, to + (l + n), u, 95);
+    put_same(pre, to + (l + n), u, UNDERSCORE);
     l + (n + u)
 }
 
@@ -184,33 +203,23 @@ fn put_row(
 pub fn fill_prefixes(
     s: &[u8],
     w: usize,
-    hold: &[u16; 16384],
-    model: &[u16; 16384],
-    inst: &[u16; 320],
+    t: &[u16],
+    inst: &[u16],
     n: usize,
-    pre: &mut [u8; 16896],
-    len: &mut [u16; 64],
+    pre: &mut [u8],
+    len: &mut [u16],
 )
-    requires { ⌜ Naming (record { width = w; bytes = now s }) × (Tables (record { width = w; bytes = now s }) (now hold) (now model) × ((n ≡ length (instances (record { width = w; bytes = now s }))) × (Above (record { width = w; bytes = now s }) (now inst) n × ((length (now pre) ≡ 16896) × (length (now len) ≡ 64))))) ⌝ }
-    ensures { λ _. ⌜ Prefixed (record { width = w; bytes = now (s .entry) }) (now (pre .exit)) (now (len .exit)) ⌝ }
+    requires { ⌜ Planted (recipeAt w (now s)) (now t) (now inst) n × ((n * rowWidth w ≤ length (now pre)) × (n ≤ length (now len))) ⌝ }
+    ensures { λ _. ⌜ Prefixed (recipeAt w (now (s .entry))) (now (pre .exit)) (now (len .exit)) ⌝ }
 {
+    let row = row_width(w);
     len[0] = 0;
     let mut i = 1;
     while i < n {
-        let m = recipe::wide(inst[5 * i + 3]);
-        let u = recipe::wide(inst[5 * i + 4]);
-        let l = recipe::wide(len[u]);
-        let r = put_row(
-            s,
-            w,
-            hold,
-            model,
-            m,
-            pre,
-            u * (4 * w + 8),
-            l,
-            i * (4 * w + 8),
-        );
+        let m = cell(inst, 6 * i, tree::SUBMODEL_RECORD);
+        let u = cell(inst, 6 * i, tree::AROUND);
+        let l = row_length(len, u);
+        let r = put_row(s, w, t, m, pre, u * row, l, i * row);
         len[i] = r as u16;
         i += 1;
     }

@@ -6,16 +6,13 @@ ghost use mathlib.Core.Option.{none, some};
 ghost use Prim.Native.Nat.{_+_, _*_, _≤_, _<_};
 ghost use lib.ListN.{length};
 ghost use Rattle.names.specs.Lists.{same};
-ghost use Rattle.names.specs.Names.{fieldAt};
 ghost use Rattle.names.specs.Scans.{scan, foundOf};
 ghost use Rattle.name_index.specs.Index.{nameOf};
 ghost use Rattle.flat_table.specs.Classes.{isClass, parentAllowed, referenceAllowed};
 ghost use Rattle.flat_table.specs.Table.{isMalformedRow, isParentFault, isReferenceFault, isRowFault, refusal, verdictOf, tableVerdict};
 ghost use Rattle.flat_table.specs.Rows.{Fields, RowAt, Rows, Indexed};
 use name_index::Layout;
-use names::Field;
 use names::Found;
-use names::Optional;
 
 // What the check answers: 01's number, place and count of records.
 #[repr(C)]
@@ -25,19 +22,13 @@ pub struct TableAnswer {
     pub count: u64,
 }
 
+// The most records that a table has.
+const MOST_RECORDS: usize = 1024;
+
 pub fn is_class(b: u8) -> bool
     ensures { λ r. ⌜ r ≡ isClass b ⌝ }
 {
     (1 <= b) & (b <= 7)
-}
-
-// The w bytes from `at` on.
-fn field(table: &[u8], at: usize, w: usize) -> &[u8]
-    requires { ⌜ at + w ≤ length (now table) ⌝ }
-    ensures { λ r. ⌜ now r ≡ fieldAt w (now (table .entry)) at ⌝ }
-{
-    let end = at + w;
-    &table[at..end]
 }
 
 // Whether 15 applies to the record at `at`.
@@ -46,19 +37,10 @@ fn is_malformed(table: &[u8], l: Layout, at: usize) -> bool
     ensures { λ r. ⌜ r ≡ isMalformedRow (l .width) (l .stride) (now (table .entry)) at ⌝ }
 {
     let w = l.width;
-    if !is_class(table[at]) {
-        return true;
-    }
-    let Field::Name(_) = names::read_field(field(table, at + 1, w)) else {
-        return true;
-    };
-    let Optional::Holds(_) = names::read_optional(field(table, at + 1 + w, w)) else {
-        return true;
-    };
-    let Optional::Holds(_) = names::read_optional(field(table, at + 1 + w + w, w)) else {
-        return true;
-    };
-    false
+    !is_class(table[at])
+        | !names::is_name(names::field_at(table, at + 1, w))
+        | !names::is_optional(names::field_at(table, at + 1 + w, w))
+        | !names::is_optional(names::field_at(table, at + 1 + w + w, w))
 }
 
 // The first record to which 15 applies.
@@ -110,14 +92,13 @@ fn find_row(table: &[u8], l: Layout, n: usize, keys: &[u32], index: &[u16], f: &
     name_index::find(table, l, n, keys, index, name_index::hash(f), f)
 }
 
-// Whether 17 applies to the parent of the record at position p.
-fn parent_fault(table: &[u8], l: Layout, n: usize, keys: &[u32], index: &[u16], p: usize) -> bool
-    requires { ⌜ Indexed (now table) l n (now keys) (now index) × (p < n) ⌝ }
-    ensures { λ r. ⌜ r ≡ isParentFault (l .width) (l .stride) (now (table .entry)) (p * l .stride) ⌝ }
+// Whether 17 applies to the parent of the record at `at`.
+fn parent_fault(table: &[u8], l: Layout, n: usize, keys: &[u32], index: &[u16], at: usize) -> bool
+    requires { ⌜ Indexed (now table) l n (now keys) (now index) × RowAt (now table) l at ⌝ }
+    ensures { λ r. ⌜ r ≡ isParentFault (l .width) (l .stride) (now (table .entry)) at ⌝ }
 {
     let w = l.width;
-    let at = p * l.stride;
-    let f = field(table, at + 1 + w, w);
+    let f = names::field_at(table, at + 1 + w, w);
     if names::is_blank(f) {
         return !parent_may_be_blank(table[at]);
     }
@@ -128,14 +109,20 @@ fn parent_fault(table: &[u8], l: Layout, n: usize, keys: &[u32], index: &[u16], 
     !((to < at) & parent_allowed(table[at], table[to]))
 }
 
-// Whether 17 applies to the reference of the record at position p.
-fn reference_fault(table: &[u8], l: Layout, n: usize, keys: &[u32], index: &[u16], p: usize) -> bool
-    requires { ⌜ Indexed (now table) l n (now keys) (now index) × (p < n) ⌝ }
-    ensures { λ r. ⌜ r ≡ isReferenceFault (l .width) (l .stride) (now (table .entry)) (p * l .stride) ⌝ }
+// Whether 17 applies to the reference of the record at `at`.
+fn reference_fault(
+    table: &[u8],
+    l: Layout,
+    n: usize,
+    keys: &[u32],
+    index: &[u16],
+    at: usize,
+) -> bool
+    requires { ⌜ Indexed (now table) l n (now keys) (now index) × RowAt (now table) l at ⌝ }
+    ensures { λ r. ⌜ r ≡ isReferenceFault (l .width) (l .stride) (now (table .entry)) at ⌝ }
 {
     let w = l.width;
-    let at = p * l.stride;
-    let f = field(table, at + 1 + w + w, w);
+    let f = names::field_at(table, at + 1 + w + w, w);
     if names::is_blank(f) {
         return !reference_may_be_blank(table[at]);
     }
@@ -153,8 +140,9 @@ fn first_unlinked(table: &[u8], l: Layout, n: usize, keys: &[u32], index: &[u16]
 {
     let mut i = 0;
     while i < n {
-        if parent_fault(table, l, n, keys, index, i)
-            | reference_fault(table, l, n, keys, index, i)
+        let at = i * l.stride;
+        if parent_fault(table, l, n, keys, index, at)
+            | reference_fault(table, l, n, keys, index, at)
         {
             return Found::At(i);
         }
@@ -182,16 +170,16 @@ fn check_table(table: &[u8], l: Layout) -> TableAnswer
     if table.len() % s != 0 {
         return refused(14, 0);
     }
-    if 1024 * s < table.len() {
+    if MOST_RECORDS * s < table.len() {
         return refused(14, 0);
     }
     let n = table.len() / s;
     if let Found::At(p) = first_malformed(table, l, n) {
         return refused(15, p * s);
     }
-    let mut keys = [0u32; 1024];
+    let mut keys = [0u32; MOST_RECORDS];
     name_index::hash_names(table, l, n, &mut keys);
-    let mut index = [0u16; 1024];
+    let mut index = [0u16; MOST_RECORDS];
     name_index::build(table, l, n, &keys, &mut index);
     if let Found::At(p) = name_index::first_repeat(table, l, n, &keys, &index) {
         return refused(16, p * s);

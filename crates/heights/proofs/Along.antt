@@ -1,111 +1,182 @@
--- A loop over the records of a recipe that goes on from a place: which places lie before it, and which are left.
+-- A definition's submodels, one after the other: the next one behind a record, and what holds of those before it.
 -- Assumes nothing.
-use mathlib.Core.Path.{_≡_, refl, ap}
-use mathlib.Core.Logic.{_⊎_, inl, inr, ⊎-elim}
+use mathlib.Core.Path.{_≡_, refl, sym, ap, _∙_}
+use mathlib.Core.Logic.{inl, inr, ⊎-elim}
 use Prim.Native.Nat.{ℕ, zero, suc, _+_, _≤_, _<_}
 use native.Mathlib.Omega.{arith}
-use mathlib.Core.Bool.{true}
+use mathlib.Core.Bool.{not, _&&_}
+use mathlib.Core.List.{List}
 use lib.ListN.{length, getD}
-use lib.Dec.{ltb}
-use borrow.Author.Tests.{ltb-true, ltb-false}
+use lib.Dec.{eqb}
+use borrow.Author.Tests.{eqb-true, eq-eqb}
 use Rattle.names.specs.Lists.{In}
-use Rattle.names.proofs.Tests.{by-cases}
-use Rattle.recipe.specs.Records.{Recipe, kind, recordLength, next, isReadable, placesFrom, stopFrom, places, stop}
-use Rattle.recipe.proofs.Reading.{readable-fits, next-more, readable}
+use Rattle.names.proofs.Tests.{by-cases, three, both}
+use Rattle.names.proofs.Lists.{keep-in}
+use Rattle.recipe.specs.Records.{Recipe, kind, recordLength, next, isReadable, placesFrom, stopFrom, places, stop, isModel, isSubmodel}
+use Rattle.recipe.specs.Definitions.{definitions, holder, recordsOf, submodels, modelOf}
+use Rattle.recipe.proofs.Reading.{readable, readable-fits, next-more, place-low, before-this}
+use Rattle.recipe.proofs.Definitions.{in-submodels, model-in, holder-in}
+use Rattle.recipe.proofs.Spans.{holder-above, holder-below, holder-rise, definition-place}
+use Rattle.shadow.specs.Columns.{Linked}
+use Rattle.shadow.proofs.Cells.{step-next, row-room}
+use Rattle.heights.specs.Search.{NextSubmodel}
 
--- at p, a place or the end: each place lies before it, or is left
-pub record Along (s : Recipe) (p : ℕ) : Type 0 where
-  pub tries : ℕ
-  pub enough : length (s .bytes) ≤ p + tries
-  pub stops : stop s ≡ stopFrom tries s p
-  pub inside : (x : ℕ) → In x (placesFrom tries s p) → In x (places s)
-  pub covers : (x : ℕ) → In x (places s) → (x < p) ⊎ In x (placesFrom tries s p)
-
--- at the record at p: it is whole, and each place lies before it, is its own, or is behind it
-pub record Stands (s : Recipe) (p : ℕ) : Type 0 where
-  pub readable : isReadable s p ≡ true
-  pub place : In p (places s)
-  pub beyond : Along s (next s p)
-  pub before : (x : ℕ) → In x (places s) → x < next s p → (x < p) ⊎ (x ≡ p)
-
-pub along-start : (s : Recipe) → Along s 0
-unfolding stop places
-along-start s = record { tries = length (s .bytes); enough = omega arith; stops = refl; inside = λ x i. i; covers = λ x i. inr i }
-
+-- ---- kinds and places
 module _ (s : Recipe) where
-  from-in : (n p x : ℕ) → In x (placesFrom n s p) → p ≤ x
-  unfolding placesFrom
-  from-in zero p x i = absurd i
-  from-in (suc n) p x i =
+  model-kind : (d : ℕ) → In d (definitions s) → kind s d ≡ 1
+  unfolding isModel
+  model-kind d i = eqb-true (kind s d) 1 (definition-place s d i .1)
+
+  submodel-kind : (d m : ℕ) → In m (submodels s d) → kind s m ≡ 4
+  unfolding isSubmodel
+  submodel-kind d m i = eqb-true (kind s m) 4 (in-submodels s d m i .passes)
+
+  submodel-in : (d m : ℕ) → In m (places s) → holder s m ≡ d → kind s m ≡ 4 → In m (submodels s d)
+  unfolding submodels recordsOf isModel isSubmodel
+  submodel-in d m i h k =
+      keep-in (isSubmodel s) (recordsOf s d) m
+      (keep-in (λ p. not (isModel s p) && eqb (holder s p) d) (places s) m i (both {a = not (isModel s m)} (rw k) (eq-eqb (holder s m) d h)))
+      (eq-eqb (kind s m) 4 k)
+
+  -- a submodel lies behind its definition, which is one
+  pub submodel-after : (d m : ℕ) → In m (submodels s d) → In d (definitions s) × (d < m)
+  submodel-after d m i =
+      let h = in-submodels s d m i in
+      let def : In d (definitions s) = rw (h .held) at (holder-in s m (h .placed)) in
+      three d m (λ l. (def, l)) (λ q. absurd (omega (arith, model-kind d def, submodel-kind d m i, ap (kind s) q))) (λ l. absurd (omega (arith, holder-below s m, h .held)))
+
+  pub definition-low : (d : ℕ) → In d (definitions s) → d < length (s .bytes)
+  definition-low d i = place-low s d (definition-place s d i .0)
+
+  -- where reading goes on to the end, there is a record behind each but the last
+  starts : (n p : ℕ) → stopFrom n s p ≡ length (s .bytes) → p < length (s .bytes) → In p (placesFrom n s p)
+  unfolding stopFrom placesFrom
+  starts zero p e l = absurd (omega arith)
+  starts (suc n) p e l =
       by-cases (isReadable s p)
-      (λ b. ⊎-elim (λ (h : x ≡ p). omega (arith, h)) (λ (h : In x (placesFrom n s (next s p))). omega (arith, from-in n (next s p) x h, next-more s p)) (rw (b, placesFrom) at i))
+      (λ b. rw (b, placesFrom) (inl refl))
+      (λ b. let q : p ≡ length (s .bytes) = rw (b, stopFrom) at e in absurd (omega arith))
+
+  next-from : (n p₀ p : ℕ) → stopFrom n s p₀ ≡ length (s .bytes) → In p (placesFrom n s p₀) → next s p < length (s .bytes) → In (next s p) (placesFrom n s p₀)
+  unfolding stopFrom placesFrom
+  next-from zero p₀ p e i l = absurd i
+  next-from (suc n) p₀ p e i l =
+      by-cases (isReadable s p₀)
+      (λ b.
+      let e′ : stopFrom n s (next s p₀) ≡ length (s .bytes) = rw (b, stopFrom) at e in
+      rw (b, placesFrom)
+      (inr
+      (⊎-elim (λ (q : p ≡ p₀). rw q (starts n (next s p₀) e′ (rw q at l)))
+      (λ (j : In p (placesFrom n s (next s p₀))). next-from n (next s p₀) p e′ j l)
+      (rw (b, placesFrom) at i))))
       (λ b. absurd (rw (b, placesFrom) at i))
 
-  -- a place lies in the recipe
-  pub place-in : (x : ℕ) → In x (places s) → x < length (s .bytes)
-  place-in x i = omega (arith, readable-fits s x (readable s x i), next-more s x)
+  next-place : stop s ≡ length (s .bytes) → (p : ℕ) → In p (places s) → next s p < length (s .bytes) → In (next s p) (places s)
+  unfolding places stop
+  next-place whole p i l = next-from (length (s .bytes)) 0 p whole i l
 
-  stands-at : (p n : ℕ) → stop s ≡ length (s .bytes) → length (s .bytes) ≤ p + n → stop s ≡ stopFrom n s p → ((x : ℕ) → In x (placesFrom n s p) → In x (places s))
-      → ((x : ℕ) → In x (places s) → (x < p) ⊎ In x (placesFrom n s p)) → p < length (s .bytes) → Stands s p
-  unfolding stopFrom placesFrom
-  stands-at p zero w e st i c l = absurd (omega arith)
-  stands-at p (suc n) w e st i c l =
-      by-cases (isReadable s p)
-      (λ b. let d : (x : ℕ) → In x (places s) → (x < p) ⊎ ((x ≡ p) ⊎ In x (placesFrom n s (next s p))) = λ x j. rw (b, placesFrom) at (c x j) in
-      record {
-        readable = b;
-        place = i p (rw (b, placesFrom) (inl refl));
-        beyond = record {
-          tries = n;
-          enough = omega (arith, next-more s p);
-          stops = rw (b, stopFrom) at st;
-          inside = λ x j. i x (rw (b, placesFrom) (inr j));
-          covers = λ x j.
-              ⊎-elim (λ (h : x < p). inl (omega (arith, next-more s p)))
-              (⊎-elim (λ (h : x ≡ p). inl (omega (arith, h, next-more s p))) (λ (h : In x (placesFrom n s (next s p))). inr h))
-              (d x j);
-        };
-        before = λ x j k.
-            ⊎-elim (λ (h : x < p). inl h)
-            (⊎-elim (λ (h : x ≡ p). inr h)
-            (λ (h : In x (placesFrom n s (next s p))). absurd (omega (arith, from-in n (next s p) x h))))
-            (d x j);
-      })
-      (λ b. let q : stop s ≡ p = rw (b, stopFrom) at st in absurd (omega arith))
+-- ---- the search for the next submodel of d behind q has come to p
+pub record Seeking (s : Recipe) (d q p : ℕ) : Type 0 where
+  pub after : q < p
+  pub within : p ≤ length (s .bytes)
+  pub placed : p < length (s .bytes) → In p (places s)
+  pub none-yet : (m : ℕ) → In m (submodels s d) → q < m → m < p → ⊥
 
-  -- before the end there is a record
-  pub stands : (p : ℕ) → stop s ≡ length (s .bytes) → Along s p → p < length (s .bytes) → Stands s p
-  stands p w a l = stands-at p (a .tries) w (a .enough) (a .stops) (a .inside) (a .covers) l
+module _ {s : Recipe} {t : List ℕ} (g : Linked s t) where
+  -- a record, and the room of its cells
+  pub linked-room : (p : ℕ) → In p (places s) → p + 13 ≤ length t
+  linked-room p i = row-room (g .numbered .shadowed) p i
 
-  -- from any place on
-  along-from : (n p : ℕ) → stop s ≡ length (s .bytes) → Along s p → length (s .bytes) ≤ p + n → (x : ℕ) → In x (places s) → p ≤ x → Along s x
-  along-from zero p w a e x i l = absurd (omega (arith, place-in x i))
-  along-from (suc n) p w a e x i l =
-      let k = place-in x i in
-      let t = stands p w a (omega arith) in
-      by-cases (ltb x (next s p))
-      (λ h.
-      ⊎-elim (λ (u : x < p). absurd (omega arith)) (λ (u : x ≡ p). rw u a)
-      (t .before x i (ltb-true x (next s p) h)))
-      (λ h. along-from n (next s p) w (t .beyond) (omega (arith, next-more s p)) x i (ltb-false x (next s p) h))
+  module _ (p : ℕ) {n : ℕ} (i : In p (places s)) (e : n ≡ recordLength (s .width) (getD (s .bytes) p 0)) where
+    pub place-fits : (p < p + n) × (p + n ≤ length (s .bytes))
+    place-fits = (rw (step-next s p e) (next-more s p), rw (step-next s p e) (readable-fits s p (readable s p i)))
 
-  pub along-at : stop s ≡ length (s .bytes) → (x : ℕ) → In x (places s) → Along s x
-  along-at w x i = along-from (length (s .bytes)) 0 w (along-start s) (omega arith) x i (omega arith)
+    step-place : p + n < length (s .bytes) → In (p + n) (places s)
+    step-place l = rw (step-next s p e) (next-place s (g .numbered .shadowed .whole) p i (rw (step-next s p e) at l))
 
--- the record's length is that of its kind
-module _ {s : Recipe} {p n : ℕ} (h : Stands s p) (l : n ≡ recordLength (s .width) (getD (s .bytes) p 0)) where
-  is-next : p + n ≡ next s p
-  unfolding next kind
-  is-next = ap (λ (k : ℕ). p + k) l
+    step-before : (m : ℕ) → In m (places s) → m < p + n → m ≤ p
+    step-before m j l = before-this s p m i j (rw (step-next s p e) at l)
 
-  pub along-on : Along s (p + n)
-  along-on = rw is-next (h .beyond)
+  pub seek-start : {d q n : ℕ} → In q (places s) → n ≡ recordLength (s .width) (getD (s .bytes) q 0) → Seeking s d q (q + n)
+  seek-start {d} {q} i e = record {
+    after = place-fits q i e .0;
+    within = place-fits q i e .1;
+    placed = step-place q i e;
+    none-yet = λ m j a l. omega (arith, step-before q i e m (in-submodels s d m j .placed) l);
+  }
 
-  pub stands-fits : p + n ≤ length (s .bytes)
-  stands-fits = rw is-next (readable-fits s p (h .readable))
+  module _ {d q p : ℕ} (u : Seeking s d q p) where
+    module _ (l : p < length (s .bytes)) where
+      pub seek-fits : {n : ℕ} → n ≡ recordLength (s .width) (getD (s .bytes) p 0) → (p < p + n) × (p + n ≤ length (s .bytes))
+      seek-fits e = place-fits p (u .placed l) e
 
-  pub stands-more : p < p + n
-  stands-more = rw is-next (next-more s p)
+      -- a record of another definition: those behind it are not of d
+      pub seek-over : In d (definitions s) → d ≤ q → (getD t (p + 0) 0 ≡ d → ⊥) → NextSubmodel s d q (length (s .bytes))
+      seek-over def a o = record {
+        after = omega (arith, u .after);
+        within = omega arith;
+        one = λ k. absurd (omega arith);
+        first = λ m j b k.
+            three m p (λ z. u .none-yet m j b z)
+            (λ z. o (g .numbered .held p (u .placed l) ∙ rw z at (in-submodels s d m j .held)))
+            (λ z. o (g .numbered .held p (u .placed l) ∙ omega (arith, holder-above s d p def (omega (arith, u .after)), holder-rise s p m (omega arith), in-submodels s d m j .held)));
+      }
 
-  pub stands-before : (x : ℕ) → In x (places s) → x < p + n → (x < p) ⊎ (x ≡ p)
-  stands-before x i k = h .before x i (rw is-next at k)
+      pub seek-found : getD t (p + 0) 0 ≡ d → getD (s .bytes) p 0 ≡ 4 → NextSubmodel s d q p
+      unfolding kind
+      seek-found h k = record {
+        after = u .after;
+        within = u .within;
+        one = λ z. submodel-in s d p (u .placed l) (sym (g .numbered .held p (u .placed l)) ∙ h) k;
+        first = u .none-yet;
+      }
+
+      -- no submodel
+      pub seek-on : {n : ℕ} → n ≡ recordLength (s .width) (getD (s .bytes) p 0) → (getD (s .bytes) p 0 ≡ 4 → ⊥) → Seeking s d q (p + n)
+      unfolding kind
+      seek-on {n} e o = record {
+        after = omega (arith, seek-fits e, u .after);
+        within = seek-fits e .1;
+        placed = step-place p (u .placed l) e;
+        none-yet = λ m j b k.
+            three m p (λ z. u .none-yet m j b z)
+            (λ z. o (rw z at (submodel-kind s d m j)))
+            (λ z. omega (arith, step-before p (u .placed l) e m (in-submodels s d m j .placed) k));
+      }
+
+    pub seek-end : length (s .bytes) ≤ p → NextSubmodel s d q (length (s .bytes))
+    seek-end l = record { after = omega (arith, u .after); within = omega arith; one = λ k. absurd (omega arith); first = λ m j b k. u .none-yet m j b (omega arith) }
+
+-- ---- a loop over the submodels of d: it stands at one or at the end, and P holds of those before
+pub record Through (s : Recipe) (d : ℕ) (P : ℕ → Type 0) (p : ℕ) : Type 0 where
+  pub within : p ≤ length (s .bytes)
+  pub one : p < length (s .bytes) → In p (submodels s d)
+  pub upto : (m : ℕ) → In m (submodels s d) → m < p → P m
+
+pub through-start : {s : Recipe} {d r : ℕ} (P : ℕ → Type 0) → NextSubmodel s d d r → Through s d P r
+through-start {s} {d} P n = record { within = n .within; one = n .one; upto = λ m i l. absurd (n .first m i (submodel-after s d m i .1) l) }
+
+module _ {s : Recipe} {d p : ℕ} {P : ℕ → Type 0} (u : Through s d P p) where
+  pub through-on : (Q : ℕ → Type 0) {r : ℕ} → NextSubmodel s d p r → ((m : ℕ) → In m (submodels s d) → P m → Q m) → Q p → Through s d Q r
+  through-on Q n f x = record {
+    within = n .within;
+    one = n .one;
+    upto = λ m i l. three m p (λ z. f m i (u .upto m i z)) (λ z. rw z x) (λ z. absurd (n .first m i z l));
+  }
+
+  pub through-end : length (s .bytes) ≤ p → (m : ℕ) → In m (submodels s d) → P m
+  through-end l m i = u .upto m i (omega (arith, place-low s m (in-submodels s d m i .placed)))
+
+  module _ {t : List ℕ} (g : Linked s t) (l : p < length (s .bytes)) where
+    pub through-place : In p (places s)
+    through-place = in-submodels s d p (u .one l) .placed
+
+    pub through-model : getD t (p + 3) 0 ≡ modelOf s p
+    through-model = g .models p through-place (in-submodels s d p (u .one l) .passes)
+
+    -- its model is a definition
+    pub through-in : In (getD t (p + 3) 0) (definitions s)
+    through-in = rw through-model (model-in s d p (u .one l))
+
+    pub through-after : d ≤ p
+    through-after = omega (arith, submodel-after s d p (u .one l) .1)

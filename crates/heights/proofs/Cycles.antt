@@ -5,12 +5,13 @@ use Prim.Native.Nat.{ℕ}
 use mathlib.Core.Bool.{Bool, false, _&&_}
 use lib.ListN.{getD}
 use borrow.Author.Tests.{eq-eqb, ne-eqb}
-use Rattle.names.specs.Lists.{first}
+use Rattle.names.specs.Lists.{In, first}
 use Rattle.recipe.specs.Records.{Recipe, kind, places, isModel}
 use Rattle.recipe.specs.Definitions.{definitions}
 use Rattle.recipe.specs.Reaching.{reaches}
 use Rattle.recipe.specs.Reading.{fault₆}
 use Rattle.names.proofs.Lists.{first-keep}
+use Rattle.recipe.proofs.Spans.{in-definitions}
 
 module _ (s : Recipe) where
   -- a definition that reaches itself
@@ -22,6 +23,10 @@ module _ (s : Recipe) where
   fault-6 = first-keep (λ d. reaches s d d) (isModel s) (places s)
 
   module _ (p : ℕ) where
+    pub model-definition : In p (places s) → getD (s .bytes) p 0 ≡ 1 → In p (definitions s)
+    unfolding isModel kind
+    model-definition i k = in-definitions s p i (eq-eqb (getD (s .bytes) p 0) 1 k)
+
     pub no-model : (getD (s .bytes) p 0 ≡ 1 → ⊥) → isCycle p ≡ false
     unfolding isModel kind
     no-model n = rw (ne-eqb (getD (s .bytes) p 0) 1 n)

@@ -2,5 +2,5 @@
 pub mod Along
 pub mod Search
 pub mod Cycles
-pub mod Raising
 pub mod Settling
+pub mod Raising

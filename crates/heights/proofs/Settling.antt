@@ -1,401 +1,386 @@
 -- Settling heights depth first: what is settled stays and falls along submodel records, and a definition that is met in progress reaches itself.
 -- Assumes nothing.
 use mathlib.Core.Path.{_≡_, refl, sym, ap, _∙_}
-use mathlib.Core.Logic.{⊎-elim}
-use Prim.Native.Nat.{ℕ, zero, suc, _+_, _≤_, _<_}
+use mathlib.Core.Logic.{inl, inr}
+use Prim.Native.Nat.{ℕ, suc, _+_, _≤_, _<_}
 use native.Mathlib.Omega.{arith}
 use mathlib.Core.Bool.{Bool, true, false, true≢false, false≢true}
 use mathlib.Core.Option.{none}
-use mathlib.Core.List.{List}
-use lib.ListN.{length, getD, set, length-set, List·getD-eq-default}
-use lib.Seq.{getD-set-same, getD-set-other}
+use mathlib.Core.List.{List, [], _∷_}
+use lib.ListN.{length, getD, set}
 use lib.Dec.{eqb, ltb}
-use borrow.Author.Tests.{eqb-true, eqb-false, ltb-true, ltb-false, lt-ltb}
-use Rattle.names.specs.Lists.{In}
-use Rattle.names.proofs.Tests.{by-cases, and-left, and-right, both}
-use Rattle.names.proofs.Tables.{Filled}
-use Rattle.recipe.specs.Records.{Recipe, kind, recordLength, isModel}
+use borrow.Author.Tests.{eqb-true, eqb-false, eq-eqb, ltb-true, ltb-false, lt-ltb, le-ltb}
+use Rattle.names.specs.Lists.{In, keep}
+use Rattle.names.proofs.Tests.{by-cases, and-left, both, not-both}
+use Rattle.names.proofs.ListOrder.{Rising}
+use Rattle.recipe.specs.Records.{Recipe, recordLength, places}
 use Rattle.recipe.specs.Definitions.{definitions, holder, submodels, modelOf}
 use Rattle.recipe.specs.Reaching.{Reach, direct}
 use Rattle.recipe.specs.Reading.{fault₆}
-use Rattle.recipe.proofs.Definitions.{in-submodels, holder-in}
-use Rattle.recipe.proofs.Reaching.{reach-append, reach-in}
+use Rattle.recipe.proofs.Definitions.{model-in, holder-in, definitions-rise}
+use Rattle.recipe.proofs.Reaching.{reach-append}
 use Rattle.recipe.proofs.Rows.{no-cycle}
 use Rattle.recipe.proofs.Spans.{holder-above, holder-below, definition-place}
-use Rattle.heights.specs.Search.{Ground}
-use Rattle.heights.specs.Heights.{Heights, isSeen, isSettled, tally, Partly, Kept, Enters, Grows, Leaves, Cleared}
-use Rattle.heights.proofs.Along.{Along, Stands, along-at, stands-before, place-in}
-use Rattle.heights.proofs.Search.{place-definition, model-place, kind-submodel, submodel-at, model-at, held-at}
+use Rattle.shadow.specs.Shadow.{Shadowed, Cell, Kept}
+use Rattle.shadow.specs.Columns.{Linked, Heights}
+use Rattle.shadow.proofs.Cells.{cell-set, cell-kept, kept-all, kept-set, kept-then, Walking, walk-start, walk-place, walk-one, before-next}
+use Rattle.shadow.proofs.Columns.{linked-over}
+use Rattle.heights.specs.Search.{NextSubmodel}
+use Rattle.heights.specs.Heights.{heightOf, isUnseen, isSettled, higherOf, countOf, Partly, Grown, Enters, Grows, Decides}
+use Rattle.heights.proofs.Along.{linked-room, definition-low, submodel-after, Through, through-start, through-on, through-end, through-model, through-in}
 
--- ---- entries that pass a test
-tally-yes : (t : ℕ → Bool) (k : ℕ) (xs : List ℕ) → t (getD xs k 0) ≡ true → tally t (suc k) xs ≡ suc (tally t k xs)
-tally-yes t k xs e = rw (e, tally)
-
-tally-no : (t : ℕ → Bool) (k : ℕ) (xs : List ℕ) → t (getD xs k 0) ≡ false → tally t (suc k) xs ≡ tally t k xs
-tally-no t k xs e = rw (e, tally)
-
-pub tally-low : (t : ℕ → Bool) (k : ℕ) (xs : List ℕ) → tally t k xs ≤ k
-tally-low t zero xs = omega arith
-tally-low t (suc k) xs =
-    by-cases (t (getD xs k 0))
-    (λ e. omega (arith, tally-yes t k xs e, tally-low t k xs))
-    (λ e. omega (arith, tally-no t k xs e, tally-low t k xs))
-
-module _ (t : ℕ → Bool) (xs ys : List ℕ) (h : (x : ℕ) → t (getD xs x 0) ≡ true → t (getD ys x 0) ≡ true) where
-  pub tally-more : (k : ℕ) → tally t k xs ≤ tally t k ys
-  tally-more zero = omega arith
-  tally-more (suc k) =
-      by-cases (t (getD xs k 0))
-      (λ e. omega (arith, tally-yes t k xs e, tally-yes t k ys (h k e), tally-more k))
-      (λ e.
-      by-cases (t (getD ys k 0))
-      (λ f. omega (arith, tally-no t k xs e, tally-yes t k ys f, tally-more k))
-      (λ f. omega (arith, tally-no t k xs e, tally-no t k ys f, tally-more k)))
+-- ---- members that pass a test
+module _ (f g : ℕ → Bool) where
+  keep-more : (xs : List ℕ) → ((x : ℕ) → In x xs → f x ≡ true → g x ≡ true) → length (keep f xs) ≤ length (keep g xs)
+  keep-more [] h = omega arith
+  keep-more (x ∷ xs) h =
+      let r = keep-more xs (λ y i. h y (inr i)) in
+      by-cases (f x)
+      (λ a. rw (a, h x (inl refl) a, keep) (omega arith))
+      (λ a. by-cases (g x) (λ b. rw (a, b, keep) (omega arith)) (λ b. rw (a, b, keep) (omega arith)))
 
   -- one more passes
-  pub tally-one : (k x : ℕ) → x < k → t (getD xs x 0) ≡ false → t (getD ys x 0) ≡ true → tally t k xs < tally t k ys
-  tally-one zero x l a b = absurd (omega arith)
-  tally-one (suc k) x l a b =
-      by-cases (eqb x k)
-      (λ q.
-      let a′ : t (getD xs k 0) ≡ false = rw (eqb-true x k q) at a in
-      let b′ : t (getD ys k 0) ≡ true = rw (eqb-true x k q) at b in
-      omega (arith, tally-no t k xs a′, tally-yes t k ys b′, tally-more k))
-      (λ q.
-      let o : x ≡ k → ⊥ = eqb-false x k q in
-      let r = tally-one k x (omega arith) a b in
-      by-cases (t (getD xs k 0))
-      (λ e. omega (arith, tally-yes t k xs e, tally-yes t k ys (h k e), r))
-      (λ e.
-      by-cases (t (getD ys k 0))
-      (λ f. omega (arith, tally-no t k xs e, tally-yes t k ys f, r))
-      (λ f. omega (arith, tally-no t k xs e, tally-no t k ys f, r))))
+  keep-one : (xs : List ℕ) → ((x : ℕ) → In x xs → f x ≡ true → g x ≡ true) → (y : ℕ) → In y xs → f y ≡ false → g y ≡ true → length (keep f xs) < length (keep g xs)
+  keep-one [] h y i a b = absurd i
+  keep-one (x ∷ xs) h y (inl q) a b =
+      let a′ : f x ≡ false = rw q at a in
+      let b′ : g x ≡ true = rw q at b in
+      rw (a′, b′, keep) (omega (arith, keep-more xs (λ y i. h y (inr i))))
+  keep-one (x ∷ xs) h y (inr i) a b =
+      let r = keep-one xs (λ y i. h y (inr i)) y i a b in
+      by-cases (f x)
+      (λ c. rw (c, h x (inl refl) c, keep) (omega arith))
+      (λ c. by-cases (g x) (λ d. rw (c, d, keep) (omega arith)) (λ d. rw (c, d, keep) (omega arith)))
 
--- ---- a settled height
-pub settled-some : (h : ℕ) → isSettled h ≡ true → 1 ≤ h
+keep-few : (f : ℕ → Bool) (xs : List ℕ) → length (keep f xs) ≤ length xs
+keep-few f [] = omega arith
+keep-few f (x ∷ xs) = let r = keep-few f xs in by-cases (f x) (λ a. rw (a, keep) (omega arith)) (λ a. rw (a, keep) (omega arith))
+
+-- a rising list of numbers below n has no more than n
+rising-few : (p n : ℕ) (xs : List ℕ) → Rising p xs → ((x : ℕ) → In x xs → x < n) → p ≤ n → p + length xs ≤ n
+rising-few p n [] r h l = omega arith
+rising-few p n (x ∷ xs) r h l = omega (arith, r .0, rising-few (suc x) n xs (r .1) (λ y i. h y (inr i)) (omega (arith, h x (inl refl))))
+
+count-low : (f : ℕ → Bool) (s : Recipe) (t : List ℕ) → countOf f s t ≤ length (s .bytes)
+count-low f s t =
+    omega (
+      arith,
+      keep-few (λ d. f (heightOf t d)) (definitions s),
+      rising-few 0 (length (s .bytes)) (definitions s) (definitions-rise s) (λ d i. definition-low s d i) (omega arith),
+    )
+
+-- ---- a settled height, and the greater of two
+settled-some : (h : ℕ) → isSettled h ≡ true → 1 ≤ h
 settled-some h e = ltb-true 0 h (and-left (ltb 0 h) (ltb h 65535) e)
 
-pub settled-top : (h : ℕ) → isSettled h ≡ true → h < 65535
-settled-top h e = ltb-true h 65535 (and-right (ltb 0 h) (ltb h 65535) e)
-
-pub settled-is : (h : ℕ) → 1 ≤ h → h < 65535 → isSettled h ≡ true
+settled-is : (h : ℕ) → 1 ≤ h → h < 65535 → isSettled h ≡ true
 settled-is h a b = both (lt-ltb 0 h a) (lt-ltb h 65535 b)
 
--- ---- what is kept, over two stretches
-pub kept-none : (xs : List ℕ) → Kept xs xs
-kept-none xs = record { long = refl; same = λ x l. refl; busy = λ x e. e }
+pub higher-second : (a b : ℕ) → a < b → b ≡ higherOf a b
+higher-second a b l = rw (lt-ltb a b l, higherOf)
 
-pub kept-on : {xs ys zs : List ℕ} → Kept xs ys → Kept ys zs → Kept xs zs
-kept-on {xs} {ys} {zs} a b = record {
-  long = b .long ∙ a .long;
-  same = λ x l. b .same x (omega (arith, a .same x l)) ∙ a .same x l;
-  busy = λ x e. a .busy x (b .busy x e);
-}
+pub higher-first : (a b : ℕ) → b ≤ a → a ≡ higherOf a b
+higher-first a b l = rw (le-ltb a b l, higherOf)
 
-pub kept-settled : {xs ys : List ℕ} → Kept xs ys → (x : ℕ) → isSettled (getD xs x 0) ≡ true → isSettled (getD ys x 0) ≡ true
-kept-settled {xs} {ys} k x e = ap isSettled (k .same x (settled-some (getD xs x 0) e)) ∙ e
+higher-over : (a b : ℕ) → (a ≤ higherOf a b) × (b ≤ higherOf a b)
+higher-over a b =
+    by-cases (ltb a b)
+    (λ e. let l = ltb-true a b e in let q = higher-second a b l in (omega arith, omega arith))
+    (λ e. let l = ltb-false a b e in let q = higher-first a b l in (omega arith, omega arith))
 
--- fewer are not seen
-pub kept-seen : {xs ys : List ℕ} → Kept xs ys → (k : ℕ) → tally isSeen k xs ≤ tally isSeen k ys
-kept-seen {xs} {ys} h k = tally-more isSeen xs ys (λ x e. ap isSeen (h .same x (ltb-true 0 (getD xs x 0) e)) ∙ e) k
+higher-under : (a b n : ℕ) → a ≤ n → b ≤ n → higherOf a b ≤ n
+higher-under a b n k l =
+    by-cases (ltb a b) (λ e. omega (arith, higher-second a b (ltb-true a b e))) (λ e. omega (arith, higher-first a b (ltb-false a b e)))
 
--- ---- d, which was not seen, is in progress
-module _ (height : List ℕ) {d : ℕ} (l : d < length height) (z : getD height d 0 ≡ 0) where
-  pub set-own : (v : ℕ) → getD (set height d v) d 0 ≡ v
-  set-own v = getD-set-same height d v 0 l
+-- ---- answers
+pub decides-yes : {s : Recipe} {P : Type 0} → P → Decides s P true
+decides-yes h = record { yes = λ e. h; no = λ e. absurd (true≢false e) }
 
-  pub enter-seen : (n : ℕ) → d < n → tally isSeen n height < tally isSeen n (set height d 65535)
-  enter-seen n i =
-      tally-one isSeen height (set height d 65535)
-      (λ x e.
-      by-cases (eqb x d)
-      (λ q. absurd (omega (arith, ltb-true 0 (getD height x 0) e, ap (λ (y : ℕ). getD height y 0) (eqb-true x d q))))
-      (λ q. ap isSeen (getD-set-other height d x 65535 0 (eqb-false x d q)) ∙ e))
-      n d i (ap isSeen z) (ap isSeen (set-own 65535))
+pub decides-no : {s : Recipe} (P : Type 0) → (fault₆ s ≡ none → ⊥) → Decides s P false
+decides-no P f = record { yes = λ e. absurd (false≢true e); no = λ e. f }
 
-  -- what was settled is, and nothing else
-  stays : (x : ℕ) → isSettled (getD height x 0) ≡ true → getD (set height d 65535) x 0 ≡ getD height x 0
-  stays x e =
-      by-cases (eqb x d)
-      (λ q. absurd (omega (arith, settled-some (getD height x 0) e, ap (λ (y : ℕ). getD height y 0) (eqb-true x d q))))
-      (λ q. getD-set-other height d x 65535 0 (eqb-false x d q))
+-- ---- what has grown, over two stretches
+module _ {s : Recipe} where
+  grown-none : (t : List ℕ) → Grown s t t
+  grown-none t = record { kept = kept-all s (6 ∷ []) t; same = λ x i l. refl; busy = λ x i e. e }
 
-  was : (x : ℕ) → isSettled (getD (set height d 65535) x 0) ≡ true → getD (set height d 65535) x 0 ≡ getD height x 0
-  was x e =
-      by-cases (eqb x d)
-      (λ q. absurd (omega (arith, settled-top (getD (set height d 65535) x 0) e, ap (λ (y : ℕ). getD (set height d 65535) y 0) (eqb-true x d q), set-own 65535)))
-      (λ q. getD-set-other height d x 65535 0 (eqb-false x d q))
-
-  pub enter-partly : {s : Recipe} → Partly s height → Partly s (set height d 65535)
-  enter-partly {s} p = record {
-    long = omega (arith, p .long, length-set height d 65535);
-    falls = λ x m e i.
-        let o = was x e in
-        let f = p .falls x m (ap isSettled (sym o) ∙ e) i in
-        let n = stays (modelOf s m) (f .0) in
-        (ap isSettled n ∙ f .0, omega (arith, f .1, o, n));
-    low = λ x e.
-        let o = was x e in
-        omega (
-          arith,
-          o,
-          p .low x (ap isSettled (sym o) ∙ e),
-          tally-more isSettled height (set height d 65535) (λ y u. ap isSettled (stays y u) ∙ u) (length (s .bytes)),
-        );
+  grown-then : {t₀ t t′ : List ℕ} → Grown s t₀ t → Grown s t t′ → Grown s t₀ t′
+  grown-then a b = record {
+    kept = kept-then (a .kept) (b .kept);
+    same = λ x i l. b .same x i (omega (arith, a .same x i l)) ∙ a .same x i l;
+    busy = λ x i e. a .busy x i (b .busy x i e);
   }
 
--- ---- the submodels before p of d are settled, no higher than h
-pub record Under (s : Recipe) (d : ℕ) (height : List ℕ) (h p : ℕ) : Type 0 where
-  pub partly : Partly s height
-  pub few : h ≤ tally isSettled (length (s .bytes)) height
-  pub upto : (m : ℕ) → In m (submodels s d) → m < p → (isSettled (getD height (modelOf s m) 0) ≡ true) × (getD height (modelOf s m) 0 ≤ h)
+  grown-settled : {t₀ t : List ℕ} → Grown s t₀ t → (x : ℕ) → In x (definitions s) → isSettled (heightOf t₀ x) ≡ true → isSettled (heightOf t x) ≡ true
+  grown-settled {t₀} k x i e = ap isSettled (k .same x i (settled-some (heightOf t₀ x) e)) ∙ e
 
-pub under-start : {s : Recipe} {d : ℕ} {height : List ℕ} → Partly s height → Under s d height 0 d
-under-start {s} {d} p = record { partly = p; few = omega arith; upto = λ m i l. absurd (omega (arith, holder-below s m, in-submodels s d m i .held)) }
+  grown-count : {t₀ t : List ℕ} → Grown s t₀ t → countOf isSettled s t₀ ≤ countOf isSettled s t
+  grown-count {t₀} {t} k = keep-more (λ d. isSettled (heightOf t₀ d)) (λ d. isSettled (heightOf t d)) (definitions s) (grown-settled k)
 
-module _ {s : Recipe} {hold model : List ℕ} {d : ℕ} (g : Ground s hold model) (def : In d (definitions s)) where
-  pub def-low : d < length (s .bytes)
-  def-low = place-in s d (definition-place s d def .0)
+pub linked-heights : {s : Recipe} {t₀ t : List ℕ} → Kept s (6 ∷ []) t₀ t → Linked s t₀ → Linked s t
+linked-heights k g = linked-over k refl refl g
 
-  pub def-along : Along s d
-  def-along = along-at s (g .whole) d (definition-place s d def .0)
+-- ---- the height of d is written
+module _ {s : Recipe} {t₀ : List ℕ} {d : ℕ} (x : Enters s t₀ d) where
+  enter-shadowed : Shadowed s t₀
+  enter-shadowed = x .linked .numbered .shadowed
 
-  module _ {height : List ℕ} {h p : ℕ} (u : Under s d height h p) (st : Stands s p) where
-    -- a record of another definition: those behind it are not of d
-    pub under-held : d ≤ p → (getD hold p 0 ≡ d → ⊥) → Under s d height h (length (s .bytes))
-    under-held l n = record {
-      partly = u .partly;
-      few = u .few;
-      upto = λ m i k.
-          by-cases (ltb m p)
-          (λ b. u .upto m i (ltb-true m p b))
-          (λ b.
-          let o : p ≤ m = ltb-false m p b in
-          let a : holder s p ≤ holder s m = holder-above s (holder s p) m (holder-in s p (st .place)) (omega (arith, holder-below s p)) in
-          let c : d ≤ holder s p = holder-above s d p def l in
-          absurd (n (held-at g st ∙ omega (arith, in-submodels s d m i .held))));
+  pub enter-place : In d (places s)
+  enter-place = definition-place s d (x .definition) .0
+
+  pub enter-room : d + 13 ≤ length t₀
+  enter-room = linked-room (x .linked) d enter-place
+
+module _ {s : Recipe} {t₀ : List ℕ} {d : ℕ} (x : Enters s t₀ d) (t : List ℕ) (v : ℕ) where
+  put-kept : Kept s (6 ∷ []) t (set t (d + 6) v)
+  put-kept = kept-set d 6 v (enter-shadowed x) (kept-all s (6 ∷ []) t) (enter-place x) (omega arith) refl
+
+  put-own : length t ≡ length t₀ → heightOf (set t (d + 6) v) d ≡ v
+  put-own l = cell-set (enter-shadowed x) t d 6 v (enter-place x) (omega arith) l
+
+  put-other : (y : ℕ) → In y (definitions s) → (y ≡ d → ⊥) → heightOf (set t (d + 6) v) y ≡ heightOf t y
+  put-other y i n = cell-kept (enter-shadowed x) t d 6 v y 6 (enter-place x) (definition-place s y i .0) (omega arith) (omega arith) (λ e q. n (sym e))
+
+  -- of one that was not settled: what is settled stays
+  module _ (l : length t ≡ length t₀) (o : isSettled (heightOf t d) ≡ false) where
+    put-stays : (y : ℕ) → In y (definitions s) → isSettled (heightOf t y) ≡ true → heightOf (set t (d + 6) v) y ≡ heightOf t y
+    put-stays y i e = by-cases (eqb y d) (λ q. not-both (rw (eqb-true y d q) at e) o) (λ q. put-other y i (eqb-false y d q))
+
+    put-settled : (y : ℕ) → In y (definitions s) → isSettled (heightOf t y) ≡ true → isSettled (heightOf (set t (d + 6) v) y) ≡ true
+    put-settled y i e = ap isSettled (put-stays y i e) ∙ e
+
+    put-partly : Partly s t
+        → (isSettled v ≡ true → (v ≤ countOf isSettled s (set t (d + 6) v)) × ((m : ℕ) → In m (submodels s d) → (isSettled (heightOf t (modelOf s m)) ≡ true) × (heightOf t (modelOf s m) < v)))
+        → Partly s (set t (d + 6) v)
+    put-partly p n = record {
+      falls = λ y m e i.
+          let under : (isSettled (heightOf t (modelOf s m)) ≡ true) × (heightOf t (modelOf s m) < heightOf (set t (d + 6) v) y) =
+          by-cases (eqb y d)
+          (λ q.
+          let same : y ≡ d = eqb-true y d q in
+          let own : heightOf (set t (d + 6) v) y ≡ v = ap (heightOf (set t (d + 6) v)) same ∙ put-own l in
+          let f = n (sym (ap isSettled own) ∙ e) .1 m (rw same at i) in
+          (f .0, omega (arith, f .1, own)))
+          (λ q.
+          let w = put-other y (submodel-after s y m i .0) (eqb-false y d q) in
+          let f = p .falls y m (sym (ap isSettled w) ∙ e) i in
+          (f .0, omega (arith, f .1, w))) in
+          let z = model-in s y m i in
+          (put-settled (modelOf s m) z (under .0), omega (arith, under .1, put-stays (modelOf s m) z (under .0)));
+      low = λ y i e.
+          by-cases (eqb y d)
+          (λ q.
+          let own : heightOf (set t (d + 6) v) y ≡ v = ap (heightOf (set t (d + 6) v)) (eqb-true y d q) ∙ put-own l in
+          omega (arith, own, n (sym (ap isSettled own) ∙ e) .0))
+          (λ q.
+          let w = put-other y i (eqb-false y d q) in
+          omega (
+            arith,
+            w,
+            p .low y i (sym (ap isSettled w) ∙ e),
+            keep-more (λ y. isSettled (heightOf t y)) (λ y. isSettled (heightOf (set t (d + 6) v) y)) (definitions s) put-settled,
+          ));
     }
 
-    module _ {n : ℕ} (l : n ≡ recordLength (s .width) (getD (s .bytes) p 0)) where
-      -- no submodel
-      pub under-skip : (getD (s .bytes) p 0 ≡ 4 → ⊥) → Under s d height h (p + n)
-      under-skip o = record {
-        partly = u .partly;
-        few = u .few;
-        upto = λ m i k.
-            let q = in-submodels s d m i in
-            ⊎-elim (λ (b : m < p). u .upto m i b)
-            (λ (b : m ≡ p). absurd (o (ap (λ (y : ℕ). getD (s .bytes) y 0) (sym b) ∙ kind-submodel s m (q .passes))))
-            (stands-before st l m (q .placed) k);
-      }
+-- ---- the submodels of d before p are settled, no higher than h
+abbrev pub IsUnder : Recipe → List ℕ → ℕ → ℕ → Type 0
+IsUnder s t h m = (isSettled (heightOf t (modelOf s m)) ≡ true) × (heightOf t (modelOf s m) ≤ h)
 
-      -- a submodel, whose model is settled now
-      pub under-more : getD (s .bytes) p 0 ≡ 4 → {new : List ℕ} {h′ : ℕ} → Grows s height new (getD model p 0) → h ≤ h′ → getD new (getD model p 0) 0 ≤ h′
-          → h′ ≤ tally isSettled (length (s .bytes)) new → Under s d new h′ (p + n)
-      under-more o {new} {h′} w a b f = record {
-        partly = w .partly;
-        few = f;
-        upto = λ m i k.
-            ⊎-elim
-            (λ (q : m < p).
-            let v = u .upto m i q in
-            (kept-settled (w .kept) (modelOf s m) (v .0), omega (arith, v .1, w .kept .same (modelOf s m) (settled-some (getD height (modelOf s m) 0) (v .0)))))
-            (λ (q : m ≡ p). rw (q, ← model-at g st o) (w .own, b))
-            (stands-before st l m (in-submodels s d m i .placed) k);
-      }
+pub record SettleLoop (s : Recipe) (d : ℕ) (t₀ t : List ℕ) (h p : ℕ) : Type 0 where
+  pub grown : Grown s t₀ t
+  pub partly : Partly s t
+  pub few : h ≤ countOf isSettled s t
+  pub through : Through s d (IsUnder s t h) p
 
-pub under-end : {s : Recipe} {d : ℕ} {height : List ℕ} {h p : ℕ} → Under s d height h p → length (s .bytes) ≤ p → Under s d height h (length (s .bytes))
-under-end u l = record { partly = u .partly; few = u .few; upto = λ m i k. u .upto m i (omega arith) }
+module _ {s : Recipe} {t₀ : List ℕ} {d : ℕ} (x : Enters s t₀ d) where
+  -- d itself is in progress, or settled already
+  pub meets-itself : {seen : ℕ} → seen ≡ heightOf t₀ d → seen ≡ 65535 → fault₆ s ≡ none → ⊥
+  meets-itself q e f = no-cycle s f d (x .definition) (x .path d (x .definition) (sym q ∙ e))
 
--- the model of the submodel at p lies in the recipe
-pub model-low : {s : Recipe} {hold model : List ℕ} {p : ℕ} → Ground s hold model → Stands s p → getD (s .bytes) p 0 ≡ 4 → getD model p 0 < length (s .bytes)
-model-low {s} {hold} {model} {p} g st k = omega (arith, model-at g st k, model-place s (getD hold p 0) p (submodel-at g st refl k))
+  pub settled-already : {seen : ℕ} → (seen ≡ heightOf t₀ d) × (seen < 65536) → (seen ≡ 65535 → ⊥) → (seen ≡ 0 → ⊥) → Grows s t₀ t₀ d
+  settled-already {seen} q a b = record { partly = x .partly; grown = grown-none t₀; own = rw (← q .0) (settled-is seen (omega arith) (omega (arith, q .1))) }
 
--- the number of the settled only grows
-pub grows-few : {s : Recipe} {old new : List ℕ} {e h : ℕ} → Grows s old new e → h ≤ tally isSettled (length (s .bytes)) old → h ≤ tally isSettled (length (s .bytes)) new
-grows-few {s} {old} {new} w l = omega (arith, tally-more isSettled old new (kept-settled (w .kept)) (length (s .bytes)))
+  -- it is not seen yet: now it is in progress
+  module _ {t₁ : List ℕ} (q₁ : t₁ ≡ set t₀ (d + 6) 65535) where
+    enter-kept : Kept s (6 ∷ []) t₀ t₁
+    enter-kept = rw q₁ (put-kept x t₀ 65535)
 
--- ---- the call: what is in progress reaches d, and so its submodel's model
-module _ {s : Recipe} {hold model height : List ℕ} {d : ℕ} (x : Enters s hold model height d) where
-  pub in-table : d < length height
-  in-table = omega (arith, def-low (x .ground) (x .definition), x .partly .long)
+    enter-own : heightOf t₁ d ≡ 65535
+    enter-own = rw q₁ (put-own x t₀ 65535 refl)
 
-  -- d itself is in progress
-  pub meets-itself : getD height d 0 ≡ 65535 → fault₆ s ≡ none → ⊥
-  meets-itself e f = no-cycle s f d (x .definition) (x .path d e)
+    enter-other : (y : ℕ) → In y (definitions s) → (y ≡ d → ⊥) → heightOf t₁ y ≡ heightOf t₀ y
+    enter-other = rw q₁ (put-other x t₀ 65535)
 
-  module _ {now : List ℕ} (k : Kept (set height d 65535) now) where
-    pub in-progress : getD now d 0 ≡ 65535
-    in-progress = let o = getD-set-same height d 65535 0 in-table in k .same d (omega (arith, o)) ∙ o
+    pub enter-linked : Linked s t₁
+    enter-linked = linked-heights enter-kept (x .linked)
 
-    pub call-enters : {h p : ℕ} → Under s d now h p → Stands s p → getD hold p 0 ≡ d → getD (s .bytes) p 0 ≡ 4 → Enters s hold model now (getD model p 0)
-    call-enters {h} {p} u st o q =
-        let i : In p (submodels s d) = submodel-at (x .ground) st o q in
-        let m : getD model p 0 ≡ modelOf s p = model-at (x .ground) st q in
-        let to : Reach s d (getD model p 0) = direct p i (sym m) in
-        record {
-          ground = x .ground;
-          partly = u .partly;
-          definition = reach-in s to;
-          path = λ y e.
-              by-cases (eqb y d)
-              (λ b. rw (eqb-true y d b) to)
-              (λ b. reach-append s (x .path y (sym (getD-set-other height d y 65535 0 (eqb-false y d b)) ∙ k .busy y e)) to);
-        }
+  module _ {t₁ : List ℕ} (q₁ : t₁ ≡ set t₀ (d + 6) 65535) (z : heightOf t₀ d ≡ 0) where
+    pub enter : {p : ℕ} → NextSubmodel s d d p → SettleLoop s d t₁ t₁ 0 p
+    enter n = record {
+      grown = grown-none t₁;
+      partly = rw q₁ (put-partly x t₀ 65535 refl (ap isSettled z) (x .partly) (λ e. absurd (false≢true e)));
+      few = omega arith;
+      through = through-start (IsUnder s t₁ 0) n;
+    }
 
-    -- fewer are left to see than at the start
-    pub call-falls : getD height d 0 ≡ 0 → tally isSeen (length (s .bytes)) height < tally isSeen (length (s .bytes)) now
-    call-falls z = omega (arith, enter-seen height in-table z (length (s .bytes)) (def-low (x .ground) (x .definition)), kept-seen k (length (s .bytes)))
+    module _ {t : List ℕ} {h p : ℕ} (u : SettleLoop s d t₁ t h p) where
+      pub now-kept : Kept s (6 ∷ []) t₀ t
+      now-kept = kept-then (enter-kept q₁) (u .grown .kept)
 
-    pub now-length : length now ≡ length height
-    now-length = k .long ∙ length-set height d 65535
+      pub now-linked : Linked s t
+      now-linked = linked-heights now-kept (x .linked)
 
-    pub leave-length : (v : ℕ) → length (set now d v) ≡ length height
-    leave-length v = length-set now d v ∙ now-length
+      now-own : heightOf t d ≡ 65535
+      now-own = u .grown .same d (x .definition) (omega (arith, enter-own q₁)) ∙ enter-own q₁
 
-    pub height-low : {h p : ℕ} → Under s d now h p → h < 65534
-    height-low u = omega (arith, u .few, tally-low isSettled (length (s .bytes)) now, x .ground .short)
+      now-other : (y : ℕ) → In y (definitions s) → (y ≡ d → ⊥) → 1 ≤ heightOf t₀ y → heightOf t y ≡ heightOf t₀ y
+      now-other y i n l =
+          let o = enter-other q₁ y i n in
+          u .grown .same y i (omega (arith, o)) ∙ o
 
-    -- ---- d is settled above its submodels' models
-    module _ (z : getD height d 0 ≡ 0) {h : ℕ} (u : Under s d now h (length (s .bytes))) where
-      now-low : d < length now
-      now-low = omega (arith, now-length, in-table)
+      now-busy : (y : ℕ) → In y (definitions s) → (y ≡ d → ⊥) → heightOf t y ≡ 65535 → heightOf t₀ y ≡ 65535
+      now-busy y i n e = sym (enter-other q₁ y i n) ∙ u .grown .busy y i e
 
-      own-is : getD (set now d (h + 1)) d 0 ≡ h + 1
-      own-is = getD-set-same now d (h + 1) 0 now-low
-
-      own-settled : isSettled (getD (set now d (h + 1)) d 0) ≡ true
-      own-settled = ap isSettled own-is ∙ settled-is (h + 1) (omega arith) (omega (arith, height-low u))
-
-      still : (y : ℕ) → isSettled (getD now y 0) ≡ true → getD (set now d (h + 1)) y 0 ≡ getD now y 0
-      still y e =
+      -- fewer are left to see than at the start
+      pub call-falls : countOf isUnseen s t < countOf isUnseen s t₀
+      call-falls =
+          keep-one (λ y. isUnseen (heightOf t y)) (λ y. isUnseen (heightOf t₀ y)) (definitions s)
+          (λ y i e.
           by-cases (eqb y d)
-          (λ q. absurd (omega (arith, settled-top (getD now y 0) e, ap (λ (y : ℕ). getD now y 0) (eqb-true y d q), in-progress)))
-          (λ q. getD-set-other now d y (h + 1) 0 (eqb-false y d q))
+          (λ q. eq-eqb (heightOf t₀ y) 0 (rw (eqb-true y d q) z))
+          (λ q.
+          by-cases (isUnseen (heightOf t₀ y))
+          (λ b. b)
+          (λ b.
+          let n = eqb-false (heightOf t₀ y) 0 b in
+          let o = now-other y i (eqb-false y d q) (omega arith) in
+          absurd (n (sym o ∙ eqb-true (heightOf t y) 0 e)))))
+          d (x .definition) (ap isUnseen now-own) (eq-eqb (heightOf t₀ d) 0 z)
 
-      more : tally isSettled (length (s .bytes)) now < tally isSettled (length (s .bytes)) (set now d (h + 1))
-      more =
-          tally-one isSettled now (set now d (h + 1)) (λ y e. ap isSettled (still y e) ∙ e) (length (s .bytes)) d (def-low (x .ground) (x .definition))
-          (ap isSettled in-progress) own-settled
+      module _ {e : ℕ} (l : p < length (s .bytes)) (q : e ≡ getD t (p + 3) 0) where
+        -- what is in progress reaches d, and so its submodel's model
+        pub call-enters : Enters s t e
+        call-enters =
+            let to : Reach s d e = direct p (u .through .one l) (sym (q ∙ through-model (u .through) now-linked l)) in
+            record {
+              linked = now-linked;
+              partly = u .partly;
+              definition = rw q (through-in (u .through) now-linked l);
+              path = λ y i k.
+                  by-cases (eqb y d)
+                  (λ b. rw (eqb-true y d b) to)
+                  (λ b. reach-append s (x .path y i (now-busy y i (eqb-false y d b) k)) to);
+            }
 
-      leave-partly : Partly s (set now d (h + 1))
-      leave-partly = record {
-        long = omega (arith, u .partly .long, length-set now d (h + 1));
-        falls = λ y m e i.
-            by-cases (eqb y d)
-            (λ q.
-            let yd : y ≡ d = eqb-true y d q in
-            let i′ : In m (submodels s d) = rw yd at i in
-            let v = u .upto m i′ (place-in s m (in-submodels s d m i′ .placed)) in
-            let n = still (modelOf s m) (v .0) in
-            (ap isSettled n ∙ v .0, omega (arith, n, v .1, own-is, ap (λ (y : ℕ). getD (set now d (h + 1)) y 0) yd)))
-            (λ q.
-            let o : getD (set now d (h + 1)) y 0 ≡ getD now y 0 = getD-set-other now d y (h + 1) 0 (eqb-false y d q) in
-            let f = u .partly .falls y m (ap isSettled (sym o) ∙ e) i in
-            let n = still (modelOf s m) (f .0) in
-            (ap isSettled n ∙ f .0, omega (arith, f .1, o, n)));
-        low = λ y e.
-            by-cases (eqb y d)
-            (λ q. omega (arith, ap (λ (y : ℕ). getD (set now d (h + 1)) y 0) (eqb-true y d q), own-is, u .few, more))
-            (λ q.
-            let o : getD (set now d (h + 1)) y 0 ≡ getD now y 0 = getD-set-other now d y (h + 1) 0 (eqb-false y d q) in
-            omega (arith, o, u .partly .low y (ap isSettled (sym o) ∙ e), more));
-      }
+        -- the submodel's model is settled now
+        pub settle-on : {t′ : List ℕ} {k h′ r : ℕ} → Grows s t t′ e → k ≡ heightOf t′ e → h′ ≡ higherOf h k → NextSubmodel s d p r → SettleLoop s d t₁ t′ h′ r
+        settle-on {t′} {k} w y v n =
+            let o = higher-over h k in
+            let model : e ≡ modelOf s p = q ∙ through-model (u .through) now-linked l in
+            rw v
+            record {
+              grown = grown-then (u .grown) (w .grown);
+              partly = w .partly;
+              few = higher-under h k (countOf isSettled s t′) (omega (arith, u .few, grown-count (w .grown))) (omega (arith, y, w .partly .low e (rw q (through-in (u .through) now-linked l)) (w .own)));
+              through = through-on (u .through) (IsUnder s t′ (higherOf h k)) n
+                  (λ m i v.
+                  let z = model-in s d m i in
+                  (grown-settled (w .grown) (modelOf s m) z (v .0), omega (arith, o, v .1, w .grown .same (modelOf s m) z (settled-some (heightOf t (modelOf s m)) (v .0)))))
+                  (rw (← model) (w .own, omega (arith, o, y)));
+            }
 
-      pub leave : Grows s height (set now d (h + 1)) d
-      leave = record {
-        partly = leave-partly;
-        kept = record {
-          long = leave-length (h + 1);
-          same = λ y l.
+      pub height-low : h < 65534
+      height-low = omega (arith, u .few, count-low isSettled s t, enter-shadowed x .short)
+
+      -- ---- d is settled above its submodels' models
+      pub leave-kept : Kept s (6 ∷ []) t₀ (set t (d + 6) (h + 1))
+      leave-kept = kept-then now-kept (put-kept x t (h + 1))
+
+      leave-own : heightOf (set t (d + 6) (h + 1)) d ≡ h + 1
+      leave-own = put-own x t (h + 1) (now-kept .long)
+
+      leave-settled : isSettled (heightOf (set t (d + 6) (h + 1)) d) ≡ true
+      leave-settled = ap isSettled leave-own ∙ settled-is (h + 1) (omega arith) (omega (arith, height-low))
+
+      leave-more : countOf isSettled s t < countOf isSettled s (set t (d + 6) (h + 1))
+      leave-more =
+          keep-one (λ y. isSettled (heightOf t y)) (λ y. isSettled (heightOf (set t (d + 6) (h + 1)) y)) (definitions s)
+          (put-settled x t (h + 1) (now-kept .long) (ap isSettled now-own))
+          d (x .definition) (ap isSettled now-own) leave-settled
+
+      pub leave : length (s .bytes) ≤ p → Grows s t₀ (set t (d + 6) (h + 1)) d
+      leave l = record {
+        partly = put-partly x t (h + 1) (now-kept .long) (ap isSettled now-own) (u .partly)
+            (λ e. (omega (arith, u .few, leave-more), λ m i. let v = through-end (u .through) l m i in (v .0, omega (arith, v .1))));
+        grown = record {
+          kept = leave-kept;
+          same = λ y i k.
               by-cases (eqb y d)
-              (λ q. absurd (omega (arith, ap (λ (y : ℕ). getD height y 0) (eqb-true y d q), z)))
-              (λ q.
-              let o = getD-set-other height d y 65535 0 (eqb-false y d q) in
-              getD-set-other now d y (h + 1) 0 (eqb-false y d q) ∙ k .same y (omega (arith, o)) ∙ o);
-          busy = λ y e.
+              (λ q. absurd (omega (arith, ap (heightOf t₀) (eqb-true y d q), z)))
+              (λ q. put-other x t (h + 1) y i (eqb-false y d q) ∙ now-other y i (eqb-false y d q) k);
+          busy = λ y i e.
               by-cases (eqb y d)
-              (λ q. absurd (omega (arith, ap (λ (y : ℕ). getD (set now d (h + 1)) y 0) (eqb-true y d q), own-is, height-low u)))
-              (λ q.
-              sym (getD-set-other height d y 65535 0 (eqb-false y d q)) ∙ k .busy y (sym (getD-set-other now d y (h + 1) 0 (eqb-false y d q)) ∙ e));
+              (λ q. absurd (omega (arith, ap (heightOf (set t (d + 6) (h + 1))) (eqb-true y d q), leave-own, height-low)))
+              (λ q. now-busy y i (eqb-false y d q) (sym (put-other x t (h + 1) y i (eqb-false y d q)) ∙ e));
         };
-        own = own-settled;
+        own = leave-settled;
       }
 
-  -- d is settled already
-  pub leave-seen : (getD height d 0 ≡ 65535 → ⊥) → (getD height d 0 ≡ 0 → ⊥) → getD height d 0 < 65536 → Grows s height height d
-  leave-seen a b l = record { partly = x .partly; kept = kept-none height; own = settled-is (getD height d 0) (omega arith) (omega arith) }
+-- ---- the definitions of the records before p are settled, and none is in progress
+pub record SettlesLoop (s : Recipe) (t₀ t : List ℕ) (p : ℕ) : Type 0 where
+  pub walking : Walking s (6 ∷ []) t₀ t p
+  pub partly : Partly s t
+  pub idle : (x : ℕ) → In x (definitions s) → heightOf t x ≡ 65535 → ⊥
+  pub upto : (d : ℕ) → In d (definitions s) → d < p → isSettled (heightOf t d) ≡ true
 
-pub leaves-true : {s : Recipe} {old new : List ℕ} {d : ℕ} → Grows s old new d → Leaves s old new d true
-leaves-true g = record { long = g .kept .long; settled = λ e. g; cyclic = λ e. absurd (true≢false e) }
-
-pub leaves-false : {s : Recipe} {old new : List ℕ} {d : ℕ} → length new ≡ length old → (fault₆ s ≡ none → ⊥) → Leaves s old new d false
-leaves-false l f = record { long = l; settled = λ e. absurd (false≢true e); cyclic = λ e. f }
-
--- ---- at the start
-pub filled-cleared : {old new : List ℕ} {i : ℕ} → Filled (λ k. 0) old new i → length new ≤ i → Cleared old new
-filled-cleared {old} {new} {i} f l = record {
-  long = f .long;
-  zeros = λ d.
-      by-cases (ltb d (length new))
-      (λ b. f .done d (omega (arith, ltb-true d (length new) b)))
-      (λ b. List·getD-eq-default new 0 (ltb-false d (length new) b));
-}
-
-model-kind : (s : Recipe) (d : ℕ) → isModel s d ≡ true → getD (s .bytes) d 0 ≡ 1
-unfolding isModel kind
-model-kind s d k = eqb-true (getD (s .bytes) d 0) 1 k
-
--- ---- the definitions before p are settled, and none is in progress
-pub record Through (s : Recipe) (old height : List ℕ) (p : ℕ) : Type 0 where
-  pub long : length height ≡ length old
-  pub partly : Partly s height
-  pub idle : (x : ℕ) → getD height x 0 ≡ 65535 → ⊥
-  pub upto : (d : ℕ) → In d (definitions s) → d < p → isSettled (getD height d 0) ≡ true
-
-pub through-start : {s : Recipe} {old height : List ℕ} → Cleared old height → length (s .bytes) ≤ length old → Through s height height 0
-through-start {s} {old} {height} c l =
-    let none-yet : (x : ℕ) → isSettled (getD height x 0) ≡ true → ⊥ = λ x e. omega (arith, settled-some (getD height x 0) e, c .zeros x) in
+pub settles-start : {s : Recipe} {t : List ℕ} → Cell (places s) 6 (λ p. 0) t → SettlesLoop s t t 0
+settles-start {s} {t} c =
+    let zeros : (x : ℕ) → In x (definitions s) → heightOf t x ≡ 0 = λ x i. c x (definition-place s x i .0) in
+    let none-yet : (x : ℕ) → In x (definitions s) → isSettled (heightOf t x) ≡ true → ⊥ = λ x i e. omega (arith, settled-some (heightOf t x) e, zeros x i) in
     record {
-      long = refl;
-      partly = record { long = omega (arith, c .long); falls = λ d m e i. absurd (none-yet d e); low = λ d e. absurd (none-yet d e) };
-      idle = λ x e. omega (arith, c .zeros x);
+      walking = walk-start s (6 ∷ []) t;
+      partly = record { falls = λ d m e i. absurd (none-yet d (submodel-after s d m i .0) e); low = λ d i e. absurd (none-yet d i e) };
+      idle = λ x i e. omega (arith, zeros x i);
       upto = λ d i k. absurd (omega arith);
     }
 
-module _ {s : Recipe} {old height : List ℕ} {p : ℕ} (t : Through s old height p) where
-  pub through-enters : {hold model : List ℕ} → Ground s hold model → Stands s p → getD (s .bytes) p 0 ≡ 1 → Enters s hold model height p
-  through-enters g st k = record { ground = g; partly = t .partly; definition = place-definition s p (st .place) k; path = λ x e. absurd (t .idle x e) }
+module _ {s : Recipe} {t₀ t : List ℕ} {p : ℕ} (g : Linked s t₀) (u : SettlesLoop s t₀ t p) where
+  pub settles-linked : Linked s t
+  settles-linked = linked-heights (u .walking .kept) g
 
-  module _ (st : Stands s p) {n : ℕ} (l : n ≡ recordLength (s .width) (getD (s .bytes) p 0)) where
-    pub through-skip : (getD (s .bytes) p 0 ≡ 1 → ⊥) → Through s old height (p + n)
-    through-skip o = record {
-      long = t .long;
-      partly = t .partly;
-      idle = t .idle;
-      upto = λ d i k.
-          let q = definition-place s d i in
-          ⊎-elim (λ (b : d < p). t .upto d i b)
-          (λ (b : d ≡ p). absurd (o (ap (λ (y : ℕ). getD (s .bytes) y 0) (sym b) ∙ model-kind s d (q .1))))
-          (stands-before st l d (q .0) k);
-    }
+  module _ (l : p < length (s .bytes)) where
+    pub settles-place : In p (places s)
+    settles-place = walk-place (g .numbered .shadowed) (u .walking) l
 
-    pub through-more : {new : List ℕ} → Grows s height new p → Through s old new (p + n)
-    through-more {new} w = record {
-      long = w .kept .long ∙ t .long;
-      partly = w .partly;
-      idle = λ x e. t .idle x (w .kept .busy x e);
-      upto = λ d i k.
-          ⊎-elim (λ (b : d < p). kept-settled (w .kept) d (t .upto d i b))
-          (λ (b : d ≡ p). rw b (w .own))
-          (stands-before st l d (definition-place s d i .0) k);
-    }
+    module _ {d : ℕ} (q : d ≡ getD t (p + 0) 0) where
+      settles-holder : d ≡ holder s p
+      settles-holder = q ∙ settles-linked .numbered .held p settles-place
 
-  pub through-end : length (s .bytes) ≤ p → Heights s height
-  through-end l = record {
-    some = λ d i. settled-some (getD height d 0) (all d i);
-    falls = λ d m i. let q = in-submodels s d m i in t .partly .falls d m (all d (rw (q .held) at (holder-in s m (q .placed)))) i .1;
-  }
-    where
-      all : (d : ℕ) → In d (definitions s) → isSettled (getD height d 0) ≡ true
-      all d i = t .upto d i (omega (arith, place-in s d (definition-place s d i .0)))
+      pub settles-enters : Enters s t d
+      settles-enters = record {
+        linked = settles-linked;
+        partly = u .partly;
+        definition = rw settles-holder (holder-in s p settles-place);
+        path = λ x i e. absurd (u .idle x i e);
+      }
+
+      pub settles-on : {t′ : List ℕ} {n : ℕ} → Grows s t t′ d → n ≡ recordLength (s .width) (getD (s .bytes) p 0) → SettlesLoop s t₀ t′ (p + n)
+      settles-on {t′} {n} w e = record {
+        walking = walk-one (g .numbered .shadowed) (u .walking) l e (w .grown .kept);
+        partly = w .partly;
+        idle = λ x i k. u .idle x i (w .grown .busy x i k);
+        upto = λ c i k.
+            before-next s p c settles-place (definition-place s c i .0) e k
+            (λ z. grown-settled (w .grown) c i (u .upto c i z))
+            (λ z.
+            let own : d ≡ c = settles-holder ∙ omega (arith, holder-above s c p i (omega arith), holder-below s p) in
+            rw own at (w .own));
+      }
+
+  pub settles-end : length (s .bytes) ≤ p → Heights s t
+  settles-end l =
+      let all : (d : ℕ) → In d (definitions s) → isSettled (heightOf t d) ≡ true = λ d i. u .upto d i (omega (arith, definition-low s d i)) in
+      record {
+        some = λ d i. settled-some (heightOf t d) (all d i);
+        falls = λ d m i. u .partly .falls d m (all d (submodel-after s d m i .0)) i .1;
+      }

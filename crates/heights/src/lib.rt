@@ -1,77 +1,110 @@
 // Row 6: the lowest definition that reaches itself, and the heights of definitions where there is none.
-// For the floors above: find_heights. It takes the tables by place that the floor below fills.
+// For the floors above: find_heights. It reads the links in the shadow, and fills the cell HEIGHT of each model.
 ghost use mathlib.Core.Path.{_≡_};
-ghost use Prim.Native.Nat.{_≤_};
+ghost use mathlib.Core.List.{[], _∷_};
+ghost use Prim.Native.Nat.{ℕ, _≤_, _<_};
 ghost use lib.ListN.{length};
 ghost use Rattle.names.specs.Lists.{In};
 ghost use Rattle.names.specs.Scans.{foundOf};
-ghost use Rattle.recipe.specs.Records.{Recipe};
+ghost use Rattle.names.specs.declared.Found.{Found};
+ghost use Rattle.recipe.specs.Records.{recipeAt, places};
 ghost use Rattle.recipe.specs.Definitions.{definitions};
 ghost use Rattle.recipe.specs.Reaching.{reaches};
 ghost use Rattle.recipe.specs.Reading.{fault₆};
-ghost use Rattle.heights.specs.Search.{Ground, Expands, Expanded};
-ghost use Rattle.heights.specs.Heights.{Judged, Enters, Leaves, Settled, Cleared};
+ghost use Rattle.shadow.specs.Shadow.{Shadowed, Cell, Kept};
+ghost use Rattle.shadow.specs.Columns.{Linked, Heights, Measured};
+ghost use Rattle.heights.specs.Search.{NextSubmodel, IsMarked, Marks, Marked, Below};
+ghost use Rattle.heights.specs.Heights.{higherOf, Enters, Grows, Decides};
 use names::Found;
+use shadow::cell;
+use shadow::set_cell;
+
+// No record is shorter: a definition's place divided by it is a number of its own, and less than MOST_DEFINITIONS.
+const LEAST_RECORD: usize = 13;
+
+const MOST_DEFINITIONS: usize = 1261;
+
+// A height that is not known yet: of a definition that is not seen, and of one in progress.
+const UNSEEN: usize = 0;
+
+const IN_PROGRESS: usize = 65535;
+
+// The first submodel of definition d behind the record at q, or the recipe's end.
+fn next_submodel(s: &[u8], w: usize, t: &[u16], d: usize, q: usize) -> usize
+    requires { ⌜ Linked (recipeAt w (now s)) (now t) × In d (definitions (recipeAt w (now s))) × In q (places (recipeAt w (now s))) × (d ≤ q) ⌝ }
+    ensures { λ r. ⌜ NextSubmodel (recipeAt w (now (s .entry))) d q r ⌝ }
+{
+    let mut p = q + recipe::record_length(s[q], w);
+    while p < s.len() {
+        if cell(t, p, shadow::DEFINITION_OF) != d {
+            return s.len();
+        }
+        let k = s[p];
+        if k == 4 {
+            return p;
+        }
+        p += recipe::record_length(k, w);
+    }
+    s.len()
+}
+
+// Marks and queues e, where it is not marked yet, and answers the queue's new end.
+fn enqueue(mark: &mut [u8], queue: &mut [u16], tail: usize, e: usize) -> usize
+    requires { ⌜ Marks (now mark) (now queue) tail × (e < 16384) ⌝ }
+    ensures { λ r. ⌜ Marked (λ x. x ≡ e) (now (mark .entry)) (now (queue .entry)) tail (now (mark .exit)) (now (queue .exit)) r × IsMarked (now (mark .exit)) e ⌝ }
+{
+    let i = e / LEAST_RECORD;
+    if mark[i] == 1 {
+        return tail;
+    }
+    mark[i] = 1;
+    queue[tail] = e as u16;
+    tail + 1
+}
 
 // Marks and queues the models of the submodels of definition e, and answers the queue's new end.
 fn expand(
     s: &[u8],
     w: usize,
-    hold: &[u16],
-    model: &[u16],
+    t: &[u16],
     mark: &mut [u8],
     queue: &mut [u16],
     tail: usize,
     e: usize,
 ) -> usize
-    requires { ⌜ Expands (record { width = w; bytes = now s }) (now hold) (now model) (now mark) (now queue) tail e ⌝ }
-    ensures { λ r. ⌜ Expanded (record { width = w; bytes = now (s .entry) }) e (now (mark .entry)) (now (queue .entry)) tail (now (mark .exit)) (now (queue .exit)) r (length (now (s .entry))) ⌝ }
+    requires { ⌜ Linked (recipeAt w (now s)) (now t) × In e (definitions (recipeAt w (now s))) × Marks (now mark) (now queue) tail ⌝ }
+    ensures { λ r. ⌜ Marked (Below (recipeAt w (now (s .entry))) e) (now (mark .entry)) (now (queue .entry)) tail (now (mark .exit)) (now (queue .exit)) r × ((x : ℕ) → Below (recipeAt w (now (s .entry))) e x → IsMarked (now (mark .exit)) x) ⌝ }
 {
     let mut end = tail;
-    let mut p = e;
+    let mut p = next_submodel(s, w, t, e, e);
     while p < s.len() {
-        if hold[p] as usize != e {
-            return end;
-        }
-        let n = recipe::record_length(s[p], w);
-        if s[p] != 4 {
-            p += n;
-        } else {
-            let t = model[p] as usize;
-            if mark[t] == 1 {
-                p += n;
-            } else {
-                mark[t] = 1;
-                queue[end] = t as u16;
-                end += 1;
-                p += n;
-            }
-        }
+        end = enqueue(mark, queue, end, cell(t, p, shadow::MODEL));
+        p = next_submodel(s, w, t, e, p);
     }
     end
 }
 
 // Whether definition d reaches itself: what it reaches is marked, and expanded in turn.
-fn reaches_itself(s: &[u8], w: usize, hold: &[u16], model: &[u16], d: usize) -> bool
-    requires { ⌜ Ground (record { width = w; bytes = now s }) (now hold) (now model) × In d (definitions (record { width = w; bytes = now s })) ⌝ }
-    ensures { λ r. ⌜ r ≡ reaches (record { width = w; bytes = now (s .entry) }) d d ⌝ }
+fn reaches_itself(s: &[u8], w: usize, t: &[u16], d: usize) -> bool
+    requires { ⌜ Linked (recipeAt w (now s)) (now t) × In d (definitions (recipeAt w (now s))) ⌝ }
+    ensures { λ r. ⌜ r ≡ reaches (recipeAt w (now (s .entry))) d d ⌝ }
 {
-    let mut mark = [0u8; 16384];
-    let mut queue = [0u16; 16384];
-    let mut tail = expand(s, w, hold, model, &mut mark, &mut queue, 0, d);
+    let mut mark = [0u8; MOST_DEFINITIONS];
+    let mut queue = [0u16; MOST_DEFINITIONS];
+    let mut tail = expand(s, w, t, &mut mark, &mut queue, 0, d);
     let mut head = 0;
     while head < tail {
-        let e = queue[head] as usize;
-        tail = expand(s, w, hold, model, &mut mark, &mut queue, tail, e);
+        let e = recipe::wide(queue[head]);
+        tail = expand(s, w, t, &mut mark, &mut queue, tail, e);
         head += 1;
     }
-    mark[d] == 1
+    mark[d / LEAST_RECORD] == 1
 }
 
 // The lowest definition that reaches itself.
-fn first_cycle(s: &[u8], w: usize, hold: &[u16], model: &[u16]) -> Found
-    requires { ⌜ Ground (record { width = w; bytes = now s }) (now hold) (now model) ⌝ }
-    ensures { λ r. ⌜ r ≡ foundOf (fault₆ (record { width = w; bytes = now (s .entry) })) ⌝ }
+fn first_cycle(s: &[u8], w: usize, t: &[u16]) -> Found
+    requires { ⌜ Linked (recipeAt w (now s)) (now t) ⌝ }
+    ensures { λ r. ⌜ r ≡ foundOf (fault₆ (recipeAt w (now (s .entry)))) ⌝ }
 {
     let mut p = 0;
     while p < s.len() {
@@ -79,7 +112,7 @@ fn first_cycle(s: &[u8], w: usize, hold: &[u16], model: &[u16]) -> Found
         if s[p] != 1 {
             p += n;
         } else {
-            if reaches_itself(s, w, hold, model, p) {
+            if reaches_itself(s, w, t, p) {
                 return Found::At(p);
             }
             p += n;
@@ -88,94 +121,79 @@ fn first_cycle(s: &[u8], w: usize, hold: &[u16], model: &[u16]) -> Found
     Found::Nothing
 }
 
-// Each height is 0: no definition is seen yet.
-fn clear(height: &mut [u16])
-    ensures { λ r. ⌜ Cleared (now (height .entry)) (now (height .exit)) ⌝ }
+// The cell HEIGHT of each record is 0: no definition is seen yet.
+fn clear_heights(s: &[u8], w: usize, t: &mut [u16])
+    requires { ⌜ Shadowed (recipeAt w (now s)) (now t) ⌝ }
+    ensures { λ r. ⌜ Kept (recipeAt w (now (s .entry))) (6 ∷ []) (now (t .entry)) (now (t .exit)) × Cell (places (recipeAt w (now (s .entry)))) 6 (λ p. 0) (now (t .exit)) ⌝ }
 {
-    let mut i = 0;
-    while i < height.len() {
-        height[i] = 0;
-        i += 1;
-    }
-}
-
-// Settles the heights of definition d and of all that it reaches; false where one reaches itself. A height of 65535 is in progress.
-fn settle_from(
-    s: &[u8],
-    w: usize,
-    hold: &[u16],
-    model: &[u16],
-    height: &mut [u16],
-    d: usize,
-) -> bool
-    requires { ⌜ Enters (record { width = w; bytes = now s }) (now hold) (now model) (now height) d ⌝ }
-    ensures { λ r. ⌜ Leaves (record { width = w; bytes = now (s .entry) }) (now (height .entry)) (now (height .exit)) d r ⌝ }
-{
-    let seen = height[d];
-    if seen == 65535 {
-        return false;
-    }
-    if seen != 0 {
-        return true;
-    }
-    height[d] = 65535;
-    let mut h = 0;
-    let mut p = d;
-    while p < s.len() {
-        if hold[p] as usize != d {
-            p = s.len();
-        } else {
-            let n = recipe::record_length(s[p], w);
-            if s[p] != 4 {
-                p += n;
-            } else {
-                let e = model[p] as usize;
-                if !settle_from(s, w, hold, model, height, e) {
-                    return false;
-                }
-                let t = height[e];
-                if t < h {
-                    p += n;
-                } else {
-                    h = t;
-                    p += n;
-                }
-            }
-        }
-    }
-    height[d] = h + 1;
-    true
-}
-
-// Settles the heights of all definitions; false where one reaches itself.
-fn settle(s: &[u8], w: usize, hold: &[u16], model: &[u16], height: &mut [u16]) -> bool
-    requires { ⌜ Ground (record { width = w; bytes = now s }) (now hold) (now model) × (length (now s) ≤ length (now height)) ⌝ }
-    ensures { λ r. ⌜ Settled (record { width = w; bytes = now (s .entry) }) (now (height .exit)) r ⌝ }
-{
-    clear(height);
     let mut p = 0;
     while p < s.len() {
-        let k = s[p];
-        let n = recipe::record_length(k, w);
-        if k != 1 {
-            p += n;
-        } else {
-            if !settle_from(s, w, hold, model, height, p) {
-                return false;
-            }
-            p += n;
+        set_cell(t, p, shadow::HEIGHT, UNSEEN);
+        p += recipe::record_length(s[p], w);
+    }
+}
+
+// The greater of two heights.
+fn higher(a: usize, b: usize) -> usize
+    ensures { λ r. ⌜ r ≡ higherOf a b ⌝ }
+{
+    if a < b {
+        return b;
+    }
+    a
+}
+
+// Settles the heights of definition d and of all that it reaches; false where one reaches itself.
+fn settle_from(s: &[u8], w: usize, t: &mut [u16], d: usize) -> bool
+    requires { ⌜ Enters (recipeAt w (now s)) (now t) d ⌝ }
+    ensures { λ r. ⌜ Kept (recipeAt w (now (s .entry))) (6 ∷ []) (now (t .entry)) (now (t .exit)) × Decides (recipeAt w (now (s .entry))) (Grows (recipeAt w (now (s .entry))) (now (t .entry)) (now (t .exit)) d) r ⌝ }
+{
+    let seen = cell(t, d, shadow::HEIGHT);
+    if seen == IN_PROGRESS {
+        return false;
+    }
+    if seen != UNSEEN {
+        return true;
+    }
+    set_cell(t, d, shadow::HEIGHT, IN_PROGRESS);
+    let mut h = 0;
+    let mut p = next_submodel(s, w, t, d, d);
+    while p < s.len() {
+        let e = cell(t, p, shadow::MODEL);
+        if !settle_from(s, w, t, e) {
+            return false;
         }
+        h = higher(h, cell(t, e, shadow::HEIGHT));
+        p = next_submodel(s, w, t, d, p);
+    }
+    set_cell(t, d, shadow::HEIGHT, h + 1);
+    true
+}
+
+// Settles the heights of all definitions, that of each record in turn; false where one reaches itself.
+fn settle(s: &[u8], w: usize, t: &mut [u16]) -> bool
+    requires { ⌜ Linked (recipeAt w (now s)) (now t) ⌝ }
+    ensures { λ r. ⌜ Kept (recipeAt w (now (s .entry))) (6 ∷ []) (now (t .entry)) (now (t .exit)) × Decides (recipeAt w (now (s .entry))) (Heights (recipeAt w (now (s .entry))) (now (t .exit))) r ⌝ }
+{
+    clear_heights(s, w, t);
+    let mut p = 0;
+    while p < s.len() {
+        let d = cell(t, p, shadow::DEFINITION_OF);
+        if !settle_from(s, w, t, d) {
+            return false;
+        }
+        p += recipe::record_length(s[p], w);
     }
     true
 }
 
-// The lowest definition that reaches itself; where there is none, the table has each definition's height.
-pub fn find_heights(s: &[u8], w: usize, hold: &[u16], model: &[u16], height: &mut [u16]) -> Found
-    requires { ⌜ Ground (record { width = w; bytes = now s }) (now hold) (now model) × (length (now s) ≤ length (now height)) ⌝ }
-    ensures { λ r. ⌜ Judged (record { width = w; bytes = now (s .entry) }) (now (height .exit)) r ⌝ }
+// The lowest definition that reaches itself; where there is none, the shadow has each definition's height.
+pub fn find_heights(s: &[u8], w: usize, t: &mut [u16]) -> Found
+    requires { ⌜ Linked (recipeAt w (now s)) (now t) ⌝ }
+    ensures { λ r. ⌜ (r ≡ foundOf (fault₆ (recipeAt w (now (s .entry))))) × (r ≡ Found.Nothing → Measured (recipeAt w (now (s .entry))) (now (t .exit))) × (length (now (t .exit)) ≡ length (now (t .entry))) ⌝ }
 {
-    if settle(s, w, hold, model, height) {
+    if settle(s, w, t) {
         return Found::Nothing;
     }
-    first_cycle(s, w, hold, model)
+    first_cycle(s, w, t)
 }

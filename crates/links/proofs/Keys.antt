@@ -30,9 +30,12 @@ same-fields f g a b l =
     eq-same (name-padding (length g) f a l ∙ (ap (padded (length g)) t ∙ sym (name-padding (length g) g b refl))))
     (λ e. eq-same (ap text (same-true f g e)))
 
+pub nothing : (b : Bool) → b && false ≡ false
+nothing true = refl
+nothing false = refl
+
 -- ---- the key
 pub same-keys : (t u : ℕ) (f g : List ℕ) → same (keyOf t f ∷ f) (keyOf u g ∷ g) ≡ eqb t u && same f g
-unfolding keyOf
 same-keys t u f g =
     by-cases (same f g)
     (λ e.
@@ -43,11 +46,7 @@ same-keys t u f g =
     (λ h. let z = eqb-true (t * 32768 + hashOf g % 32768) (u * 32768 + hashOf g % 32768) h in eq-eqb t u (omega arith))
     (λ h. let z = eqb-true t u h in eq-eqb (t * 32768 + hashOf g % 32768) (u * 32768 + hashOf g % 32768) (omega arith))) in
     ap (λ (b : Bool). b && same f g) q)
-    (λ e. rw e (by-cases (eqb (t * 32768 + hashOf f % 32768) (u * 32768 + hashOf g % 32768)) (λ h. rw h (nothing (eqb t u))) (λ h. rw h (nothing (eqb t u)))))
-  where
-    nothing : (b : Bool) → false ≡ b && false
-    nothing true = refl
-    nothing false = refl
+    (λ e. rw e (nothing (eqb (t * 32768 + hashOf f % 32768) (u * 32768 + hashOf g % 32768)) ∙ sym (nothing (eqb t u))))
 
 -- ---- the space: by a number a below 5, which says what the kind is to row 4
 home : ℕ → ℕ → ℕ → ℕ
@@ -86,67 +85,28 @@ two-parts x y a b h l =
 spaces : ℕ → ℕ → Bool → Bool
 spaces a b y = (eqb a 0 && eqb b 0) || (y && ((eqb a 1 && eqb b 1) || (eqb a 2 && eqb b 2) || (eqb a 3 && eqb b 3)))
 
-other : (x y : Bool) → x && false ≡ y && false
-other true true = refl
-other true false = refl
-other false true = refl
-other false false = refl
+-- of two numbers that differ, not both are c
+differ : (a b c : ℕ) → eqb a b ≡ false → eqb a c && eqb b c ≡ false
+differ a b c e =
+    by-cases (eqb a c)
+    (λ h. rw (h, ne-eqb b c (λ q. eqb-false a b e (eqb-true a c h ∙ sym q))))
+    (λ h. rw h)
 
-other-false : (y : Bool) → false ≡ y && false
-other-false true = refl
-other-false false = refl
-
-agree : (a b q p d e : ℕ) → a < 5 → b < 5 → (q ≡ p → ⊥) → eqb (home a q d) (home b p e) && eqb a b ≡ spaces a b (eqb d e)
+same-spaces : (a q p d e : ℕ) → a < 5 → (q ≡ p → ⊥) → eqb (home a q d) (home a p e) && true ≡ spaces a a (eqb d e)
 unfolding home spaces
-agree zero zero q p d e h l n = refl
-agree (suc zero) (suc zero) q p d e h l n = refl
-agree (suc (suc zero)) (suc (suc zero)) q p d e h l n = refl
-agree (suc (suc (suc zero))) (suc (suc (suc zero))) q p d e h l n = refl
-agree (suc (suc (suc (suc zero)))) (suc (suc (suc (suc zero)))) q p d e h l n = rw (ne-eqb q p n) (other-false (eqb d e))
-agree zero (suc zero) q p d e h l n = other (eqb 0 e) (eqb d e)
-agree zero (suc (suc zero)) q p d e h l n = other (eqb 0 e) (eqb d e)
-agree zero (suc (suc (suc zero))) q p d e h l n = other (eqb 0 e) (eqb d e)
-agree zero (suc (suc (suc (suc zero)))) q p d e h l n = other (eqb 0 p) (eqb d e)
-agree (suc zero) zero q p d e h l n = other (eqb d 0) (eqb d e)
-agree (suc zero) (suc (suc zero)) q p d e h l n = other (eqb d e) (eqb d e)
-agree (suc zero) (suc (suc (suc zero))) q p d e h l n = other (eqb d e) (eqb d e)
-agree (suc zero) (suc (suc (suc (suc zero)))) q p d e h l n = other (eqb d p) (eqb d e)
-agree (suc (suc zero)) zero q p d e h l n = other (eqb d 0) (eqb d e)
-agree (suc (suc zero)) (suc zero) q p d e h l n = other (eqb d e) (eqb d e)
-agree (suc (suc zero)) (suc (suc (suc zero))) q p d e h l n = other (eqb d e) (eqb d e)
-agree (suc (suc zero)) (suc (suc (suc (suc zero)))) q p d e h l n = other (eqb d p) (eqb d e)
-agree (suc (suc (suc zero))) zero q p d e h l n = other (eqb d 0) (eqb d e)
-agree (suc (suc (suc zero))) (suc zero) q p d e h l n = other (eqb d e) (eqb d e)
-agree (suc (suc (suc zero))) (suc (suc zero)) q p d e h l n = other (eqb d e) (eqb d e)
-agree (suc (suc (suc zero))) (suc (suc (suc (suc zero)))) q p d e h l n = other (eqb d p) (eqb d e)
-agree (suc (suc (suc (suc zero)))) zero q p d e h l n = other (eqb q 0) (eqb d e)
-agree (suc (suc (suc (suc zero)))) (suc zero) q p d e h l n = other (eqb q e) (eqb d e)
-agree (suc (suc (suc (suc zero)))) (suc (suc zero)) q p d e h l n = other (eqb q e) (eqb d e)
-agree (suc (suc (suc (suc zero)))) (suc (suc (suc zero))) q p d e h l n = other (eqb q e) (eqb d e)
-agree (suc (suc (suc (suc (suc a))))) b q p d e h l n = absurd (omega arith)
-agree zero (suc (suc (suc (suc (suc b))))) q p d e h l n = absurd (omega arith)
-agree (suc zero) (suc (suc (suc (suc (suc b))))) q p d e h l n = absurd (omega arith)
-agree (suc (suc zero)) (suc (suc (suc (suc (suc b))))) q p d e h l n = absurd (omega arith)
-agree (suc (suc (suc zero))) (suc (suc (suc (suc (suc b))))) q p d e h l n = absurd (omega arith)
-agree (suc (suc (suc (suc zero)))) (suc (suc (suc (suc (suc b))))) q p d e h l n = absurd (omega arith)
+same-spaces zero q p d e l n = refl
+same-spaces (suc zero) q p d e l n = refl
+same-spaces (suc (suc zero)) q p d e l n = refl
+same-spaces (suc (suc (suc zero))) q p d e l n = refl
+same-spaces (suc (suc (suc (suc zero)))) q p d e l n = rw (ne-eqb q p n) (sym (nothing (eqb d e)))
+same-spaces (suc (suc (suc (suc (suc a))))) q p d e l n = absurd (omega arith)
 
--- one of the spaces of a definition, and that of the models
-space-in : (a p h d b : ℕ) → a < 5 → b < 5 → (b ≡ 0 → ⊥) → (b ≡ 4 → ⊥) → eqb (8 * home a p h + a) (8 * d + b) ≡ eqb h d && eqb a b
-unfolding home
-space-in a p h d b l m u v =
-    two-parts (home a p h) d a b l m
-    ∙ by-cases (eqb a b)
-    (λ e.
-    let z : a ≡ b = eqb-true a b e in
-    rw (e, ne-eqb a 0 (λ q. u (sym z ∙ q)), ne-eqb a 4 (λ q. v (sym z ∙ q))))
-    (λ e. rw e (other (eqb (home a p h) d) (eqb h d)))
-
-space-model : (a p h : ℕ) → eqb (8 * home a p h + a) 0 ≡ eqb a 0
-unfolding home
-space-model a p h =
-    by-cases (eqb a 0)
-    (λ e. let z : a ≡ 0 = eqb-true a 0 e in rw (e, z))
-    (λ e. let n = eqb-false a 0 e in ne-eqb (8 * home a p h + a) 0 (λ q. n (omega arith)) ∙ sym e)
+agree : (a b q p d e : ℕ) → a < 5 → (q ≡ p → ⊥) → eqb (home a q d) (home b p e) && eqb a b ≡ spaces a b (eqb d e)
+unfolding spaces
+agree a b q p d e l n =
+    by-cases (eqb a b)
+    (λ h. rw (← eqb-true a b h, eq-eqb a a refl) (same-spaces a q p d e l n))
+    (λ h. rw (h, differ a b 0 h, differ a b 1 h, differ a b 2 h, differ a b 3 h) (nothing (eqb (home a q d) (home b p e)) ∙ sym (nothing (eqb d e))))
 
 module _ (s : Recipe) where
   -- row 4, without the order of the two and the names
@@ -161,23 +121,4 @@ module _ (s : Recipe) where
       let b = shape p (holder s p) (kind s p) (known s p (readable s p j)) in
       rw (a .1 .tag, b .1 .tag, a .1 .model, b .1 .model, a .1 .declared, b .1 .declared, a .1 .port, b .1 .port, a .1 .replaced, b .1 .replaced)
       (two-parts _ _ (a .0) (b .0) (a .1 .low) (b .1 .low)
-      ∙ agree (a .0) (b .0) q p (holder s q) (holder s p) (a .1 .low) (b .1 .low) n)
-
-  -- ---- which records have their name in a space
-  pub tag-model : (p : ℕ) → In p (places s) → eqb (tagAt s p) 0 ≡ isModel s p
-  unfolding tagAt isModel
-  tag-model p i =
-      let a = shape p (holder s p) (kind s p) (known s p (readable s p i)) in
-      rw (a .1 .tag, a .1 .model) (space-model (a .0) p (holder s p))
-
-  pub tag-declared : (p d : ℕ) → In p (places s) → eqb (tagAt s p) (8 * d + 1) ≡ eqb (holder s p) d && isDeclared s p
-  unfolding tagAt isDeclared isElement isSubmodel
-  tag-declared p d i =
-      let a = shape p (holder s p) (kind s p) (known s p (readable s p i)) in
-      rw (a .1 .tag, a .1 .declared) (space-in (a .0) p (holder s p) d 1 (a .1 .low) (omega arith) (λ q. omega arith) (λ q. omega arith))
-
-  pub tag-port : (p d : ℕ) → In p (places s) → eqb (tagAt s p) (8 * d + 2) ≡ eqb (holder s p) d && isPort s p
-  unfolding tagAt isPort
-  tag-port p d i =
-      let a = shape p (holder s p) (kind s p) (known s p (readable s p i)) in
-      rw (a .1 .tag, a .1 .port) (space-in (a .0) p (holder s p) d 2 (a .1 .low) (omega arith) (λ q. omega arith) (λ q. omega arith))
+      ∙ agree (a .0) (b .0) q p (holder s q) (holder s p) (a .1 .low) n)

@@ -5,6 +5,5 @@ pub mod Keys
 pub mod Repeats
 pub mod Lookups
 pub mod Fields
-pub mod Declarations
 pub mod Linking
 pub mod Targets

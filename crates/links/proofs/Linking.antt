@@ -1,164 +1,193 @@
--- The tables of links, record by record, as the code finds them.
+-- What each kind of record names and whether row 5 refuses it, by the answers of its look-ups.
 -- Assumes nothing.
-use mathlib.Core.Path.{_≡_, sym, ap, _∙_}
-use mathlib.Core.Logic.{_⊎_, ⊎-elim}
-use mathlib.Core.Bool.{Bool, true, false, _||_}
-use mathlib.Core.Option.{Option, none, some, Option·getD}
+use mathlib.Core.Path.{_≡_, refl, sym, ap, _∙_}
+use mathlib.Core.Logic.{⊎-elim}
+use mathlib.Core.Bool.{Bool, true, false, not, _&&_, _||_, true≢false}
+use mathlib.Core.Option.{none, some}
 use mathlib.Core.List.{List}
 use Prim.Native.Nat.{ℕ, _+_, _≤_, _<_}
 use native.Mathlib.Omega.{arith}
 use lib.ListN.{length, getD}
-use lib.Dec.{eqb}
-use borrow.Author.Tests.{eqb-true, ne-eqb}
-use Rattle.names.specs.Lists.{In, keep}
-use Rattle.names.specs.Names.{text, isBlank, fieldAt}
-use Rattle.names.specs.Scans.{foundOf}
-use Rattle.names.specs.declared.Found.{Found}
-use Rattle.names.proofs.Tests.{by-option, or-cases}
-use Rattle.names.proofs.Lists.{in-keep}
-use Rattle.recipe.specs.Records.{Recipe, kind, places, isModel, isElement, isPort, isSubmodel, isReplacement, isReplacedBy, isMark, partOffset, submodelPart, portKind, ownedKind, pointerKind, field, firstField, parentField, referenceField, submodelField, submodelOffset, modelField}
-use Rattle.recipe.specs.Definitions.{main, definitions, holder, recordsOf, definitionNamed, modelOf, ownerOf, elementIn, submodelOf}
-use Rattle.recipe.proofs.Bodies.{pointer-kind}
-use Rattle.recipe.proofs.Definitions.{named-in, in-records, definition-named}
-use Rattle.links.specs.Entries.{Clear, declaredNamed, NameField}
-use Rattle.links.specs.Links.{Recorded, placeOf, modelLink, ownerLink, submodelLink, elementLink, parentLink, referenceLink}
+use lib.Dec.{eqb, ltb}
+use borrow.Author.Tests.{eqb-true, not-true}
+use Rattle.names.specs.Lists.{isSome}
+use Rattle.names.specs.Names.{text, isBlank, isName, isNameOrBlank, fieldAt}
+use Rattle.names.proofs.Tests.{by-cases, and-left, and-right, or-cases}
+use Rattle.names.proofs.Names.{name-not-blank}
+use Rattle.flat_table.specs.Classes.{parentAllowed}
+use Rattle.recipe.specs.Records.{Recipe, kind, ownedKind, markKind, pointerKind, submodelOffset, isModel, isElement, isPort, isSubmodel, isDeletion, isReplacement, isReplacedBy, isMark, byte, class, firstField, parentField, referenceField, submodelField, modelField, targetField, way}
+use Rattle.recipe.specs.Definitions.{main, holder, elementNamed, submodelNamed, modelOf, ownerOf, elementIn, submodelOf}
+use Rattle.recipe.specs.Reading.{isParent, isParentFault, isOwnPortFault, isSubmodelFieldFault, isOwnerFault, isModelFault, isPortFault, isUndeclared}
+use Rattle.recipe.specs.Fields.{portFields, markFields}
+use Rattle.recipe.specs.declared.PortFields.{PortFields}
+use Rattle.recipe.specs.declared.Mark.{Mark}
+use Rattle.recipe.proofs.Bodies.{by-pointer, mark-kind, pointer-kind}
+use Rattle.recipe.proofs.Definitions.{element-in, in-elements}
+use Rattle.recipe.proofs.Going.{class-low}
+use Rattle.recipe.proofs.Spans.{holder-below}
+use Rattle.links.specs.declared.Answer.{Answer}
+use Rattle.links.specs.declared.Held.{Held}
+use Rattle.links.specs.Entries.{recordNamed, SoughtIn, answerOf}
+use Rattle.links.specs.Links.{Recorded, Unowned, isPointing, upperOf, lowerOf, ownOf, links, linksOf}
 use Rattle.links.proofs.Places.{place-room}
-use Rattle.links.proofs.Entering.{first-field}
-use Rattle.links.proofs.Lookups.{element-look, submodel-look}
-use Rattle.links.proofs.Fields.{room-target, parent-reads, reference-reads, port-submodel-reads, mark-submodel-reads}
+use Rattle.links.proofs.Lookups.{answer-some, answer-none, none-answer, element-look, submodel-look, definition-look}
+use Rattle.links.proofs.Fields.{FieldAt, sought, filled}
 
--- ---- the place that a look-up gives
-pub place-is : (o : Option ℕ) {r : Found} → r ≡ foundOf o → placeOf r ≡ Option·getD o 0
-unfolding foundOf
-place-is none e = ap placeOf e
-place-is (some p) e = ap placeOf e
+-- a definition's number fits
+pub held-low : {s : Recipe} {at fields keys index : List ℕ} {h : Held} → Recorded s at fields keys index h → h .definition < 16384
+held-low {s} {at} {fields} {keys} {index} {h} x =
+    omega (arith, x .held, holder-below s (h .place), place-room s (h .place) (x .placed), x .named .indexed .short)
 
-pub place-low : {s : Recipe} → Clear s → (o : Option ℕ) {r : Found} → r ≡ foundOf o → ((p : ℕ) → o ≡ some p → In p (places s)) → placeOf r < 65536
-place-low {s} c o {r} e h =
-    let q = place-is o e in
-    by-option o
-    (λ z. let g : placeOf r ≡ 0 = q ∙ rw z in omega arith)
-    (λ p z. let g : placeOf r ≡ p = q ∙ rw z in omega (arith, place-room s p (h p z), c .short))
+-- the element that a name names
+element-filled : (s : Recipe) (p : ℕ) (f : List ℕ) → isBlank f ≡ false → elementIn s p f ≡ elementNamed s (holder s p) (text f)
+unfolding elementIn
+element-filled s p f b = rw (b, elementIn)
 
-pub definition-low : {s : Recipe} → Clear s → (n : List ℕ) {r : Found} → r ≡ foundOf (definitionNamed s n) → placeOf r < 65536
-unfolding definitions isModel
-definition-low {s} c n e = place-low c (definitionNamed s n) e (λ p z. in-keep (λ q. eqb (kind s q) 1) (places s) p (definition-named s n p z .0) .0)
+element-blank : (s : Recipe) (p : ℕ) (f : List ℕ) → isBlank f ≡ true → elementIn s p f ≡ none
+unfolding elementIn
+element-blank s p f b = rw (b, elementIn)
 
-pub declared-low : {s : Recipe} → Clear s → (k d : ℕ) (n : List ℕ) {r : Found} → r ≡ foundOf (declaredNamed s k d n) → placeOf r < 65536
-unfolding declaredNamed
-declared-low {s} c k d n e =
-    place-low c (declaredNamed s k d n) e
-    (λ p z. in-records s d p (in-keep (λ q. eqb (kind s q) k) (recordsOf s d) p (named-in s n (keep (λ q. eqb (kind s q) k) (recordsOf s d)) p z .0) .0) .0)
+-- ---- a field that may be blank
+module _ {s : Recipe} {at fields keys index : List ℕ} {h : Held} (x : Recorded s at fields keys index h) (q : ℕ) (room : q + s .width ≤ length (s .bytes)) (n : isNameOrBlank (fieldAt (s .width) (s .bytes) q) ≡ true)
+    {f : List ℕ} (ef : f ≡ fieldAt (s .width) (s .bytes) q) {b : Bool} (eb : b ≡ isBlank f) where
+  blank-is : isBlank (fieldAt (s .width) (s .bytes) q) ≡ b
+  blank-is = sym (eb ∙ ap isBlank ef)
 
-module _ {s : Recipe} {at fields keys index : List ℕ} {n p d : ℕ} (x : Recorded s at fields keys index n p d) where
-  clear : Clear s
-  clear = x .named .indexed .clear
+  pub blank-answer : b ≡ true → record { missing = true; place = 0 } ≡ answerOf (elementIn s (h .place) (fieldAt (s .width) (s .bytes) q))
+  blank-answer z =
+      none-answer (elementIn s (h .place) (fieldAt (s .width) (s .bytes) q)) (element-blank s (h .place) (fieldAt (s .width) (s .bytes) q) (blank-is ∙ z))
 
-  -- ---- a submodel's model
-  pub model-other : (getD (s .bytes) p 0 ≡ 4 → ⊥) → 0 ≡ modelLink s p
-  unfolding modelLink isSubmodel kind
-  model-other m = rw (ne-eqb (getD (s .bytes) p 0) 4 m)
+  module _ (z : b ≡ false) where
+    pub filled-sought : SoughtIn s (record { kind = 2; definition = h .definition; name = q })
+    filled-sought = sought (record { room = room; is = refl }) (filled (fieldAt (s .width) (s .bytes) q) n (blank-is ∙ z)) (omega arith) (omega arith) (held-low x)
 
-  pub model-link : {f : List ℕ} {r : Found} {v : ℕ} → getD (s .bytes) p 0 ≡ 4 → f ≡ fieldAt (s .width) (s .bytes) (p + 1 + s .width)
-      → r ≡ foundOf (definitionNamed s (text f)) → v ≡ placeOf r → v ≡ modelLink s p
-  unfolding modelLink isSubmodel kind modelOf modelField field main
-  model-link {f} k ef er ev = rw k (ev ∙ (place-is (definitionNamed s (text f)) er ∙ rw ef))
+    pub filled-answer : {a : Answer} → a ≡ answerOf (recordNamed s 2 (h .definition) (text (fieldAt (s .width) (s .bytes) q))) → a ≡ answerOf (elementIn s (h .place) (fieldAt (s .width) (s .bytes) q))
+    filled-answer e =
+        e
+        ∙ ap answerOf
+        (rw (x .held)
+        (sym (element-filled s (h .place) (fieldAt (s .width) (s .bytes) q) (blank-is ∙ z) ∙ element-look s (holder s (h .place)) (text (fieldAt (s .width) (s .bytes) q)))))
 
-  -- ---- a mark's owner
-  pub owner-other : ownedKind (getD (s .bytes) p 0) ≡ false → 0 ≡ ownerLink s p
-  unfolding ownerLink isReplacement isReplacedBy kind
-  owner-other e = rw e
+-- ---- an element's parent
+module _ (s : Recipe) (p : ℕ) {q : ℕ} (g : FieldAt s (parentField s p) q) {c : ℕ} (ec : c ≡ class s p) {a : Answer} (ea : a ≡ answerOf (elementIn s p (fieldAt (s .width) (s .bytes) q))) where
+  pub parent-missing : {b z : Bool} → a .missing ≡ true → b ≡ isBlank (fieldAt (s .width) (s .bytes) q) → z ≡ parentAllowed c none → not (b && z) ≡ isParentFault s p
+  unfolding isParentFault
+  parent-missing m eb ez =
+      let n : elementIn s p (parentField s p) ≡ none = ap (elementIn s p) (sym (g .is)) ∙ answer-none (elementIn s p (fieldAt (s .width) (s .bytes) q)) ea m in
+      by-cases (isBlank (parentField s p))
+      (λ h. rw (eb, g .is, h, ez, ec))
+      (λ h. rw (eb, g .is, h, n))
 
-  pub owner-link : {f : List ℕ} {r : Found} {v : ℕ} → ownedKind (getD (s .bytes) p 0) ≡ true
-      → f ≡ fieldAt (s .width) (s .bytes) (p + 1) → r ≡ foundOf (declaredNamed s 2 d (text f)) → v ≡ placeOf r → v ≡ ownerLink s p
-  unfolding ownerLink isReplacement isReplacedBy kind ownerOf main
-  owner-link {f} k ef er ev =
-      rw k (ev ∙ (place-is (declaredNamed s 2 d (text f)) er ∙ rw (ef ∙ first-field s p, x .held, element-look s (holder s p) (text (firstField s p)))))
+  module _ (m : a .missing ≡ false) where
+    there : elementIn s p (parentField s p) ≡ some (a .place)
+    there = ap (elementIn s p) (sym (g .is)) ∙ answer-some (elementIn s p (fieldAt (s .width) (s .bytes) q)) ea m
 
-  -- ---- the submodel of a port or mark
-  pub pointing : isMark s p || isPort s p ≡ pointerKind (getD (s .bytes) p 0)
+    pub parent-room : a .place + 1 + s .width < length (s .bytes)
+    parent-room =
+        let r = in-elements s (holder s p) (a .place) (element-in s p (parentField s p) (a .place) there .2) in
+        class-low s (a .place) (r .placed) (r .passes)
+
+    pub parent-there : {r : ℕ} {z : Bool} → r ≡ a .place → z ≡ parentAllowed c (some (getD (s .bytes) (r + 1 + s .width) 0)) → not (ltb r p && z) ≡ isParentFault s p
+    unfolding isParentFault isParent class byte
+    parent-there er ez = rw (element-in s p (parentField s p) (a .place) there .0, there, ez, ec, er)
+
+-- a mark with an owner is of kind 6 or 7
+pub by-owned : (P : ℕ → Type 0) → P 6 → P 7 → (k : ℕ) → ownedKind k ≡ true → P k
+by-owned P a b k h =
+    ⊎-elim (λ (e : eqb k 6 ≡ true). rw (eqb-true k 6 e) a) (λ (e : eqb k 7 ≡ true). rw (eqb-true k 7 e) b) (or-cases (eqb k 6) (eqb k 7) h)
+
+-- ---- ports and marks
+module _ (s : Recipe) (p : ℕ) where
+  pub pointer-byte : isMark s p || isPort s p ≡ pointerKind (getD (s .bytes) p 0)
   unfolding kind
-  pointing = pointer-kind s p
+  pointer-byte = pointer-kind s p
 
-  pub submodel-other : pointerKind (getD (s .bytes) p 0) ≡ false → 0 ≡ submodelLink s p
-  unfolding submodelLink
-  submodel-other e = rw (pointing ∙ e)
+  pub port-points : kind s p ≡ 3 → isMark s p || isPort s p ≡ true
+  port-points k = pointer-kind s p ∙ rw k
 
-  module _ (k : pointerKind (getD (s .bytes) p 0) ≡ true) {o : ℕ} (eo : o ≡ partOffset (s .width) (getD (s .bytes) p 0) (submodelPart (getD (s .bytes) p 0))) where
-    pub offset-is : o ≡ submodelOffset s p
-    unfolding submodelOffset kind
-    offset-is = eo
+  pub owned-mark : ownedKind (kind s p) ≡ true → isMark s p ≡ true
+  owned-mark m = mark-kind s p ∙ by-owned (λ k. markKind k ≡ true) refl refl (kind s p) m
 
-    pub room-pointer : p + 1 + o + s .width ≤ length (s .bytes)
-    room-pointer = omega (arith, offset-is, room-target s p (x .placed) (pointing ∙ k))
+  pub pointing-points : isPointing s p ≡ true → isMark s p || isPort s p ≡ true
+  unfolding isPointing
+  pointing-points h = and-left (isMark s p || isPort s p) _ h
 
-    module _ {f : List ℕ} (ef : f ≡ fieldAt (s .width) (s .bytes) (p + 1 + o)) {b : Bool} (eb : b ≡ isBlank f) where
-      pub submodel-is : f ≡ submodelField s p
-      unfolding submodelField field
-      submodel-is = ef ∙ rw offset-is
+  pub pointing-filled : isPointing s p ≡ true → isBlank (submodelField s p) ≡ false
+  unfolding isPointing
+  pointing-filled h = not-true (isBlank (submodelField s p)) (and-right (isMark s p || isPort s p) _ h)
 
-      pub blank-is : isBlank (submodelField s p) ≡ b
-      blank-is = sym (eb ∙ ap isBlank submodel-is)
+  pub port-begins : {e : PortFields} → e ≡ portFields s p → e .submodel ≡ p + 1 + submodelOffset s p
+  unfolding portFields
+  port-begins h = ap (λ (x : PortFields). x .submodel) h
 
-      pub pointer-sought : b ≡ false → NameField (s .width) f
-      unfolding isPort
-      pointer-sought h =
-          rw submodel-is
-          (⊎-elim
-          (λ (m : isMark s p ≡ true). mark-submodel-reads s p (x .placed) (clear .formed) m)
-          (λ (e : portKind (kind s p) ≡ true). port-submodel-reads s p (x .placed) (clear .formed) (eqb-true (kind s p) 3 e) (blank-is ∙ h))
-          (or-cases (isMark s p) (isPort s p) (pointing ∙ k)))
+  pub port-unowned : kind s p ≡ 3 → {e : PortFields} → e ≡ portFields s p → isBlank (submodelField s p) ≡ false → Unowned s p (e .submodel)
+  unfolding isPointing isMark isPort isDeletion isReplacement isReplacedBy
+  port-unowned k h b = record { pointing = rw (k, b); unowned = rw k; begins = port-begins h }
 
-      pub submodel-blank : b ≡ true → 0 ≡ submodelLink s p
-      unfolding submodelLink
-      submodel-blank h = rw (pointing ∙ k, blank-is ∙ h)
+  pub mark-begins : {m : Mark} → m ≡ markFields s p → m .submodel ≡ p + 1 + submodelOffset s p
+  unfolding markFields
+  mark-begins h = ap (λ (x : Mark). x .submodel) h
 
-      pub submodel-link : {r : Found} {v : ℕ} → b ≡ false → r ≡ foundOf (declaredNamed s 4 d (text f)) → v ≡ placeOf r → v ≡ submodelLink s p
-      unfolding submodelLink submodelOf
-      submodel-link h er ev =
-          rw (pointing ∙ k, blank-is ∙ h)
-          (ev ∙ (place-is (declaredNamed s 4 d (text f)) er ∙ rw (submodel-is, x .held, submodel-look s (holder s p) (text (submodelField s p)))))
+  pub deletion-unowned : kind s p ≡ 5 → {m : Mark} → m ≡ markFields s p → isBlank (submodelField s p) ≡ false → Unowned s p (m .submodel)
+  unfolding isPointing isMark isPort isDeletion isReplacement isReplacedBy
+  deletion-unowned k h b = record { pointing = rw (k, b); unowned = rw k; begins = mark-begins h }
 
-  -- ---- an element's parent and reference
-  module _ (k : getD (s .bytes) p 0 ≡ 2) {o : ℕ} (eo : (o ≡ s .width + 1) ⊎ (o ≡ s .width + (1 + s .width))) {f : List ℕ} (ef : f ≡ fieldAt (s .width) (s .bytes) (p + 1 + o)) {b : Bool} (eb : b ≡ isBlank f) where
-    field-is : f ≡ field s p o
-    unfolding field
-    field-is = ef
+-- ---- kind by kind
+module _ (s : Recipe) (p : ℕ) where
+  pub model-links : kind s p ≡ 1 → links false 0 0 0 ≡ linksOf s p
+  unfolding linksOf isUndeclared upperOf lowerOf ownOf isPointing isModel isElement isPort isSubmodel isMark isDeletion isReplacement isReplacedBy
+  model-links k = rw k
 
-    filled-is : isBlank (field s p o) ≡ b
-    filled-is = sym (eb ∙ ap isBlank field-is)
+  pub element-links : kind s p ≡ 2 → {u v : ℕ} → FieldAt s (parentField s p) u → FieldAt s (referenceField s p) v → {b : Bool} {x y : Answer} → b ≡ isParentFault s p
+      → x ≡ answerOf (elementIn s p (fieldAt (s .width) (s .bytes) u)) → y ≡ answerOf (elementIn s p (fieldAt (s .width) (s .bytes) v)) → links b (x .place) (y .place) 0 ≡ linksOf s p
+  unfolding linksOf isUndeclared upperOf lowerOf ownOf isModel isElement isPort answerOf
+  element-links k g h eb ex ey = rw (k, eb, ex, ey, g .is, h .is)
 
-    pub element-sought : b ≡ false → NameField (s .width) f
-    unfolding kind parentField referenceField
-    element-sought h =
-        rw field-is
-        (⊎-elim
-        (λ (e : o ≡ s .width + 1). rw e (parent-reads s p (x .placed) (clear .formed) k (rw e at (filled-is ∙ h))))
-        (λ (e : o ≡ s .width + (1 + s .width)). rw e (reference-reads s p (x .placed) (clear .formed) k (rw e at (filled-is ∙ h))))
-        eo)
+  pub submodel-links : kind s p ≡ 4 → (d : ℕ) {q : ℕ} → FieldAt s (modelField s p) q → {a : Answer} → a ≡ answerOf (recordNamed s 1 d (text (fieldAt (s .width) (s .bytes) q)))
+      → links (a .missing) (a .place) 0 0 ≡ linksOf s p
+  unfolding linksOf isUndeclared isModelFault upperOf lowerOf ownOf isPointing isModel isElement isPort isSubmodel isMark isDeletion isReplacement isReplacedBy modelOf main answerOf
+  submodel-links k d g e = rw (k, e, g .is, ← definition-look s d (text (modelField s p)))
 
-    pub element-blank : b ≡ true → 0 ≡ elementLink s p o
-    unfolding elementLink elementIn
-    element-blank h = rw (filled-is ∙ h, elementIn)
+  -- a port with a blank submodel
+  module _ (k : kind s p ≡ 3) (b : isBlank (submodelField s p) ≡ true) where
+    pub by-port-links : way s p ≡ 1 → links true 0 0 0 ≡ linksOf s p
+    unfolding linksOf isUndeclared isPortFault isOwnPortFault upperOf lowerOf ownOf isPointing isModel isElement isPort isSubmodel isMark isDeletion isReplacement isReplacedBy
+    by-port-links w = rw (k, b, w)
 
-    pub element-link : {r : Found} {v : ℕ} → b ≡ false → r ≡ foundOf (declaredNamed s 2 d (text f)) → v ≡ placeOf r → v ≡ elementLink s p o
-    unfolding elementLink elementIn
-    element-link h er ev =
-        rw (filled-is ∙ h, elementIn)
-        (ev ∙ (place-is (declaredNamed s 2 d (text f)) er ∙ rw (field-is, x .held, element-look s (holder s p) (text (field s p o)))))
+    pub by-element-links : way s p ≡ 0 → {d q : ℕ} → d ≡ holder s p → FieldAt s (targetField s p) q → {a : Answer} → a ≡ answerOf (recordNamed s 2 d (text (fieldAt (s .width) (s .bytes) q)))
+        → links (a .missing) 0 0 (a .place) ≡ linksOf s p
+    unfolding linksOf isUndeclared isPortFault isOwnPortFault upperOf lowerOf ownOf isPointing isModel isElement isPort isSubmodel isMark isDeletion isReplacement isReplacedBy answerOf
+    by-element-links w ed g e = rw (k, b, w, e, g .is, ed, ← element-look s (holder s p) (text (targetField s p)))
 
-  pub parent-other : (getD (s .bytes) p 0 ≡ 2 → ⊥) → 0 ≡ parentLink s p
-  unfolding parentLink isElement kind
-  parent-other m = rw (ne-eqb (getD (s .bytes) p 0) 2 m)
+  or-false : (b : Bool) → b ≡ b || false
+  or-false true = refl
+  or-false false = refl
 
-  pub parent-link : {v : ℕ} → getD (s .bytes) p 0 ≡ 2 → v ≡ elementLink s p (s .width + 1) → v ≡ parentLink s p
-  unfolding parentLink elementLink parentField isElement kind
-  parent-link k e = rw k e
+  -- the submodel of a port or mark
+  module _ {d q : ℕ} (ed : d ≡ holder s p) (g : FieldAt s (submodelField s p) q) {a : Answer} (e : a ≡ answerOf (recordNamed s 4 d (text (fieldAt (s .width) (s .bytes) q)))) where
+    submodel-answered : a ≡ answerOf (submodelNamed s (holder s p) (text (submodelField s p)))
+    submodel-answered = e ∙ rw (g .is, ed, ← submodel-look s (holder s p) (text (submodelField s p)))
 
-  pub reference-other : (getD (s .bytes) p 0 ≡ 2 → ⊥) → 0 ≡ referenceLink s p
-  unfolding referenceLink isElement kind
-  reference-other m = rw (ne-eqb (getD (s .bytes) p 0) 2 m)
+    pub pointer-links : Unowned s p q → links (a .missing) 0 (a .place) 0 ≡ linksOf s p
+    unfolding linksOf isUndeclared isPortFault isSubmodelFieldFault isOwnerFault upperOf lowerOf ownOf isPointing isModel isElement isPort isSubmodel isMark isDeletion isReplacement isReplacedBy submodelOf answerOf
+    pointer-links u =
+        let h = pointing-points s p (u .pointing) in
+        let b = pointing-filled s p (u .pointing) in
+        by-pointer (λ j. kind s p ≡ j → links (a .missing) 0 (a .place) 0 ≡ linksOf s p)
+        (λ k. rw (k, b, submodel-answered))
+        (λ k. rw (k, b, submodel-answered, ← or-false (not (isSome (submodelNamed s (holder s p) (text (submodelField s p)))))))
+        (λ k. absurd (true≢false (rw k at (u .unowned))))
+        (λ k. absurd (true≢false (rw k at (u .unowned))))
+        (kind s p) (sym (pointer-kind s p) ∙ h) refl
 
-  pub reference-link : {v : ℕ} → getD (s .bytes) p 0 ≡ 2 → v ≡ elementLink s p (s .width + (1 + s .width)) → v ≡ referenceLink s p
-  unfolding referenceLink elementLink referenceField isElement kind
-  reference-link k e = rw k e
+    pub owned-links : ownedKind (kind s p) ≡ true → isName (submodelField s p) ≡ true → isName (firstField s p) ≡ true → {r : ℕ} → FieldAt s (firstField s p) r → {o : Answer}
+        → o ≡ answerOf (elementIn s p (fieldAt (s .width) (s .bytes) r)) → links (a .missing || o .missing) (o .place) (a .place) 0 ≡ linksOf s p
+    unfolding linksOf isUndeclared isSubmodelFieldFault isOwnerFault upperOf lowerOf ownOf isPointing isModel isElement isPort isSubmodel isMark isDeletion isReplacement isReplacedBy submodelOf ownerOf main answerOf
+    owned-links m n f i {o} eo =
+        let b = name-not-blank (submodelField s p) n in
+        let t : o ≡ answerOf (elementNamed s (holder s p) (text (firstField s p))) =
+        eo ∙ rw (i .is, element-filled s p (firstField s p) (name-not-blank (firstField s p) f)) in
+        by-owned (λ j. kind s p ≡ j → links (a .missing || o .missing) (o .place) (a .place) 0 ≡ linksOf s p)
+        (λ k. rw (k, b, submodel-answered, t))
+        (λ k. rw (k, b, submodel-answered, t))
+        (kind s p) m refl

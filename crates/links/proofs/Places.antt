@@ -1,4 +1,4 @@
--- The records of a recipe by number: the places as a list, one more place at a time, and tables that are filled by place.
+-- The records of a recipe by number: the places as a list, one more place at a time.
 -- Assumes nothing.
 use mathlib.Core.Path.{_≡_, refl, sym, ap, _∙_}
 use mathlib.Core.Logic.{inl, inr}
@@ -7,12 +7,11 @@ use mathlib.Core.Option.{some, Option·map}
 use mathlib.Core.List.{List, [], _∷_}
 use Prim.Native.Nat.{ℕ, zero, suc, _+_, _≤_, _<_}
 use native.Mathlib.Omega.{arith}
-use lib.ListN.{length, getD, drop, set, length-set, length-drop}
-use lib.Seq.{getD-set-same, getD-set-other}
+use lib.ListN.{length, getD, drop, length-drop}
 use Rattle.names.specs.Lists.{In, first}
 use Rattle.names.specs.Scans.{scan, firstFrom}
 use Rattle.names.proofs.Tests.{by-cases, three}
-use Rattle.names.proofs.Lists.{at-cons, getD-in, in-getD}
+use Rattle.names.proofs.Lists.{at-cons, getD-in}
 use Rattle.names.proofs.ListOrder.{Rising, rising-in}
 use Rattle.recipe.specs.Records.{Recipe, kind, next, isReadable, placesFrom, places}
 use Rattle.recipe.proofs.Bodies.{kind-least}
@@ -94,29 +93,3 @@ module _ (s : Recipe) where
   less-numbered i j h k l =
       three i j (λ u. u) (λ u. absurd (let e : getD (places s) i 0 ≡ getD (places s) j 0 = ap (λ (x : ℕ). getD (places s) x 0) u in omega arith))
       (λ u. absurd (let m = numbered-less j i u h in omega arith))
-
-  -- a table that is filled by place, record by record
-  pub record Filling (f : ℕ → ℕ) (out₀ out : List ℕ) (i : ℕ) : Type 0 where
-    pub long : length out ≡ length out₀
-    pub done : (j : ℕ) → j < i → getD out (getD (places s) j 0) 0 ≡ f (getD (places s) j 0)
-
-  pub filling-start : (f : ℕ → ℕ) (out : List ℕ) → Filling f out out 0
-  filling-start f out = record { long = refl; done = λ j h. absurd (omega arith) }
-
-  pub filling-one : {f : ℕ → ℕ} {out₀ out : List ℕ} {i : ℕ} (p x : ℕ) → Filling f out₀ out i → i < length (places s) → p ≡ getD (places s) i 0
-      → p < length out → x ≡ f p → Filling f out₀ (set out p x) (i + 1)
-  filling-one {f} {out₀} {out} {i} p x r h e l v = record {
-    long = length-set out p x ∙ r .long;
-    done = λ j u.
-        three j i
-        (λ z. getD-set-other out p (getD (places s) j 0) x 0 (λ q. let m = numbered-less j i z h in omega arith) ∙ r .done j z)
-        (λ z. let g : getD (places s) j 0 ≡ p = ap (λ (k : ℕ). getD (places s) k 0) z ∙ sym e in
-        ap (λ (k : ℕ). getD (set out p x) k 0) g ∙ (getD-set-same out p x 0 l ∙ (v ∙ ap f (sym g))))
-        (λ z. absurd (omega arith));
-  }
-
-  pub filling-end : {f : ℕ → ℕ} {out₀ out : List ℕ} {i : ℕ} → Filling f out₀ out i → length (places s) ≤ i
-      → (p : ℕ) → In p (places s) → getD out p 0 ≡ f p
-  filling-end {f} {out₀} {out} {i} r h p m =
-      let k = in-getD (places s) p 0 m in
-      ap (λ (x : ℕ). getD out x 0) (k .1 .1) ∙ (r .done (k .0) (omega (arith, k .1 .0)) ∙ ap f (sym (k .1 .1)))

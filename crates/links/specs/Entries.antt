@@ -1,20 +1,22 @@
--- The key of a record, so that two records have one key and one first field where row 4 refuses the later; and what the tables hold.
+-- The key of a record, so that two records have one key and one first field where row 4 refuses the later; the index of the names, and what is sought in it.
 -- Assumes nothing.
 use Prim.Native.Nat.{ℕ, _+_, _*_, _%_, _≤_, _<_}
 use mathlib.Core.Path.{_≡_}
-use mathlib.Core.Bool.{true, cond, _&&_, _||_}
-use mathlib.Core.Option.{Option, none}
+use mathlib.Core.Bool.{Bool, true, cond, not, _&&_, _||_}
+use mathlib.Core.Option.{Option, none, Option·getD}
 use mathlib.Core.List.{List}
 use lib.ListN.{length, getD}
 use lib.Dec.{eqb}
-use Rattle.names.specs.Lists.{In, keep, first, same}
-use Rattle.names.specs.Names.{isName}
+use Rattle.names.specs.Lists.{keep, first, isSome}
+use Rattle.names.specs.Names.{isName, fieldAt}
 use Rattle.name_index.specs.declared.Layout.{Layout}
 use Rattle.name_index.specs.Hash.{hashOf}
-use Rattle.name_index.specs.Index.{nameOf, Indexes}
-use Rattle.recipe.specs.Records.{Recipe, portKind, replacedByKind, kind, places, stop, firstField}
-use Rattle.recipe.specs.Definitions.{holder, recordsOf, named}
-use Rattle.recipe.specs.Reading.{fault₃}
+use Rattle.name_index.specs.Index.{nameOf, Keyed, Indexes}
+use Rattle.recipe.specs.Records.{Recipe, portKind, replacedByKind, kind, places, firstField}
+use Rattle.recipe.specs.Definitions.{holder, named}
+use Rattle.recipe.specs.Reading.{fault₃, fault₄}
+use Rattle.links.specs.declared.Sought.{Sought}
+use Rattle.links.specs.declared.Answer.{Answer}
 
 -- where a record of kind k at p, of definition d, has its name: models share one space; elements and submodels of a definition share one,
 -- its ports one, and its replaced-by's, by their owners; each record of another kind has one of its own
@@ -31,62 +33,54 @@ unfoldable pub tagAt : Recipe → ℕ → ℕ
 tagAt s p = tagOf (kind s p) p (holder s p)
 
 -- the key of the name in the field f in the space t; the name's number is in it so that most comparisons of two names end at once
-unfoldable pub keyOf : ℕ → List ℕ → ℕ
+abbrev pub keyOf : ℕ → List ℕ → ℕ
 keyOf t f = t * 32768 + hashOf f % 32768
 
--- a recipe that rows 1 to 3 do not refuse, of a name width for which 1,536 records are enough
-pub record Clear (s : Recipe) : Type 0 where
-  pub wide : 10 ≤ s .width
-  pub narrow : s .width ≤ 64
-  pub short : length (s .bytes) ≤ 16384
-  pub whole : stop s ≡ length (s .bytes)
-  pub formed : fault₃ s ≡ none
-
--- the table has the places of the n records, in order
-pub record Listed (s : Recipe) (at : List ℕ) (n : ℕ) : Type 0 where
-  pub count : n ≡ length (places s)
-  pub room : n * (s .width + 1) ≤ 16384
-  pub few : n ≤ 1536
-  pub enough : n ≤ length at
-  pub listed : (i : ℕ) → i < n → getD at i 0 ≡ getD (places s) i 0
-
--- the table has, at each record's place, what f gives for it
-abbrev pub ByPlace : Recipe → (ℕ → ℕ) → List ℕ → Type 0
-ByPlace s f out = (p : ℕ) → In p (places s) → getD out p 0 ≡ f p
+-- the key of the record at p
+unfoldable pub keyAt : Recipe → ℕ → ℕ
+keyAt s p = keyOf (tagAt s p) (firstField s p)
 
 -- fields of width w, one after the other
 abbrev pub layout : ℕ → Layout
 layout w = record { first = 0; stride = w; width = w }
 
--- the table has the first field of each record, in order
-abbrev pub Copied : Recipe → List ℕ → ℕ → Type 0
-Copied s fields n = (i : ℕ) → i < n → nameOf fields (layout (s .width)) i ≡ firstField s (getD (places s) i 0)
+-- the tables have the first field and the key of each record, in order
+pub record Entered (s : Recipe) (fields keys : List ℕ) : Type 0 where
+  pub few : length (places s) ≤ 1536
+  pub room : Keyed keys fields (layout (s .width)) (length (places s))
+  pub copied : (i : ℕ) → i < length (places s) → nameOf fields (layout (s .width)) i ≡ firstField s (getD (places s) i 0)
+  pub keyed : (i : ℕ) → i < length (places s) → getD keys i 0 ≡ keyAt s (getD (places s) i 0)
 
--- the key of record number i
-abbrev pub keyAt : Recipe → ℕ → ℕ
-keyAt s i = let p = getD (places s) i 0 in keyOf (tagAt s p) (firstField s p)
+-- the places, first fields and keys, and the index of the records by key and first field, of a recipe that row 3 does not refuse
+pub record Indexed (s : Recipe) (at fields keys index : List ℕ) : Type 0 where
+  pub narrow : s .width ≤ 64
+  pub short : length (s .bytes) ≤ 16384
+  pub formed : fault₃ s ≡ none
+  pub listed : at ≡ places s
+  pub entered : Entered s fields keys
+  pub indexes : Indexes keys fields (layout (s .width)) (length (places s)) index
 
--- the table has the key of each record, in order
-abbrev pub HasKeys : Recipe → List ℕ → ℕ → Type 0
-HasKeys s keys n = (i : ℕ) → i < n → getD keys i 0 ≡ keyAt s i
+-- that of a recipe that row 4 does not refuse either
+pub record Named (s : Recipe) (at fields keys index : List ℕ) : Type 0 where
+  pub indexed : Indexed s at fields keys index
+  pub once : fault₄ s ≡ none
 
--- the places, first fields and keys, and the index of the records by key and first field
-pub record Indexed (s : Recipe) (at fields keys index : List ℕ) (n : ℕ) : Type 0 where
-  pub clear : Clear s
-  pub places-are : Listed s at n
-  pub copied : Copied s fields n
-  pub keyed : HasKeys s keys n
-  pub indexes : Indexes keys fields (layout (s .width)) n index
+-- a record of kind k, of definition d unless it is a model
+unfoldable pub isOf : Recipe → ℕ → ℕ → ℕ → Bool
+isOf s k d p = eqb (kind s p) k && (eqb k 1 || eqb (holder s p) d)
 
--- the first record whose name is in the space t, and whose first field is f
-unfoldable pub entryNamed : Recipe → ℕ → List ℕ → Option ℕ
-entryNamed s t f = first (λ p. eqb (tagAt s p) t && same (firstField s p) f) (places s)
+-- that of the name n: the definition, element, port or submodel
+unfoldable pub recordNamed : Recipe → ℕ → ℕ → List ℕ → Option ℕ
+recordNamed s k d n = named s n (keep (isOf s k d) (places s))
 
--- the element (k is 2) or submodel (k is 4) named n of definition d
-unfoldable pub declaredNamed : Recipe → ℕ → ℕ → List ℕ → Option ℕ
-declaredNamed s k d n = named s n (keep (λ p. eqb (kind s p) k) (recordsOf s d))
+-- what may be sought: one of these, by a name in the recipe
+pub record SoughtIn (s : Recipe) (q : Sought) : Type 0 where
+  pub least : 1 ≤ q .kind
+  pub most : q .kind ≤ 4
+  pub low : q .definition < 16384
+  pub room : q .name + s .width ≤ length (s .bytes)
+  pub reads : isName (fieldAt (s .width) (s .bytes) (q .name)) ≡ true
 
--- a field of width w that reads as a name
-pub record NameField (w : ℕ) (f : List ℕ) : Type 0 where
-  pub long : length f ≡ w
-  pub reads : isName f ≡ true
+-- the code's answer to a look-up: place 0 where there is none
+unfoldable pub answerOf : Option ℕ → Answer
+answerOf o = record { missing = not (isSome o); place = Option·getD o 0 }

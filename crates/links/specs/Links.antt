@@ -1,65 +1,72 @@
--- What is asked of a record of a recipe over the tables, and what each table of links holds.
+-- What a record names, by the cells it is written to, and what is asked of a record over the index.
 -- Assumes nothing.
-use Prim.Native.Nat.{ℕ}
+use Prim.Native.Nat.{ℕ, _+_}
 use mathlib.Core.Path.{_≡_}
-use mathlib.Core.Bool.{cond}
+use mathlib.Core.Bool.{Bool, true, false, cond, not, _&&_}
 use mathlib.Core.Option.{none, Option·getD}
-use mathlib.Core.List.{List}
+use mathlib.Core.List.{List, [], _∷_}
+use lib.Dec.{eqb}
 use Rattle.names.specs.Lists.{In}
-use Rattle.names.specs.Names.{isBlank}
-use Rattle.names.specs.declared.Found.{Found}
-use Rattle.names.specs.declared.Found.the-variants.{At, Nothing}
-use Rattle.recipe.specs.Records.{Recipe, places, field, isElement, isSubmodel, isOwned, isPointer, parentField, referenceField, submodelField}
-use Rattle.recipe.specs.Definitions.{holder, modelOf, ownerOf, elementIn, submodelOf, namedBy}
-use Rattle.recipe.specs.Reading.{fault₄, fault₅}
-use Rattle.links.specs.Entries.{Indexed, ByPlace}
+use Rattle.names.specs.Names.{text, isBlank}
+use Rattle.names.specs.Judging.{Row, row}
+use Rattle.recipe.specs.Records.{Recipe, places, isElement, isPort, isSubmodel, isOwned, isPointer, parentField, referenceField, submodelOffset, submodelField, way, targetField}
+use Rattle.recipe.specs.Definitions.{holder, elementNamed, modelOf, ownerOf, elementIn, submodelOf}
+use Rattle.recipe.specs.Reading.{isUndeclared, fault₄, fault₅}
+use Rattle.shadow.specs.Shadow.{Cell}
+use Rattle.shadow.specs.Columns.{Numbered}
+use Rattle.links.specs.declared.Held.{Held}
+use Rattle.links.specs.declared.Links.{Links}
+use Rattle.links.specs.Entries.{Named}
 
--- the index of a recipe that rows 1 to 4 do not refuse
-pub record Named (s : Recipe) (at fields keys index : List ℕ) (n : ℕ) : Type 0 where
-  pub indexed : Indexed s at fields keys index n
-  pub once : fault₄ s ≡ none
+-- rows 4 and 5, which look at what the records name
+abbrev pub declaredRows : Recipe → List Row
+declaredRows s = row 4 (fault₄ s) ∷ row 5 (fault₅ s) ∷ []
 
--- and a record at p, of definition d
-pub record Recorded (s : Recipe) (at fields keys index : List ℕ) (n p d : ℕ) : Type 0 where
-  pub named : Named s at fields keys index n
-  pub placed : In p (places s)
-  pub held : d ≡ holder s p
+-- a record and its definition, over the index
+pub record Recorded (s : Recipe) (at fields keys index : List ℕ) (h : Held) : Type 0 where
+  pub named : Named s at fields keys index
+  pub placed : In (h .place) (places s)
+  pub held : h .definition ≡ holder s (h .place)
 
--- the place that a look-up gives, or 0, which is that of no record but main's
-abbrev pub placeOf : Found → ℕ
-placeOf (At p) = p
-placeOf Nothing = 0
+-- a port or mark that names a submodel
+unfoldable pub isPointing : Recipe → ℕ → Bool
+isPointing s p = isPointer s p && not (isBlank (submodelField s p))
 
--- by place, a submodel's model
-unfoldable pub modelLink : Recipe → ℕ → ℕ
-modelLink s p = cond (isSubmodel s p) (modelOf s p) 0
+-- a port or deletion that does, by the field at q
+pub record Unowned (s : Recipe) (p q : ℕ) : Type 0 where
+  pub pointing : isPointing s p ≡ true
+  pub unowned : isOwned s p ≡ false
+  pub begins : q ≡ p + 1 + submodelOffset s p
 
--- by place, the owner of a mark that has one
-unfoldable pub ownerLink : Recipe → ℕ → ℕ
-ownerLink s p = cond (isOwned s p) (ownerOf s p) 0
+-- cell 3: an element's parent, a mark's owner, a submodel's model
+unfoldable pub upperOf : Recipe → ℕ → ℕ
+upperOf s p =
+    cond (isElement s p) (Option·getD (elementIn s p (parentField s p)) 0)
+    (cond (isOwned s p) (ownerOf s p)
+    (cond (isSubmodel s p) (modelOf s p) 0))
 
--- by place, the submodel of a port or mark, 0 of a blank
-unfoldable pub submodelLink : Recipe → ℕ → ℕ
-submodelLink s p = cond (isPointer s p) (cond (isBlank (submodelField s p)) 0 (submodelOf s p)) 0
+-- cell 4: an element's reference, the submodel of a port or mark, 0 of a blank
+unfoldable pub lowerOf : Recipe → ℕ → ℕ
+lowerOf s p =
+    cond (isElement s p) (Option·getD (elementIn s p (referenceField s p)) 0)
+    (cond (isPointing s p) (submodelOf s p) 0)
 
--- the element that the field o bytes into the body of the element at p names, 0 of a blank and of one that names none
-unfoldable pub elementLink : Recipe → ℕ → ℕ → ℕ
-elementLink s p o = Option·getD (elementIn s p (field s p o)) 0
+-- cell 5, of a port with a blank submodel: the element that it names
+unfoldable pub ownOf : Recipe → ℕ → ℕ
+ownOf s p =
+    cond (isPort s p && isBlank (submodelField s p) && eqb (way s p) 0) (Option·getD (elementNamed s (holder s p) (text (targetField s p))) 0) 0
 
--- by place, the element that an element's parent names, 0 of a blank
-unfoldable pub parentLink : Recipe → ℕ → ℕ
-parentLink s p = cond (isElement s p) (Option·getD (elementIn s p (parentField s p)) 0) 0
+-- what a record names, cell by cell
+abbrev pub links : Bool → ℕ → ℕ → ℕ → Links
+links b x y z = record { undeclared = b; upper = x; lower = y; own = z }
 
--- by place, the element that an element's reference names, 0 of a blank and of one that names none
-unfoldable pub referenceLink : Recipe → ℕ → ℕ
-referenceLink s p = cond (isElement s p) (Option·getD (elementIn s p (referenceField s p)) 0) 0
+-- whether row 5 refuses the record at p, and what it names
+unfoldable pub linksOf : Recipe → ℕ → Links
+linksOf s p = links (isUndeclared s p) (upperOf s p) (lowerOf s p) (ownOf s p)
 
--- by place, the record that a port or mark names, 0 where there is none
-unfoldable pub nextLink : Recipe → ℕ → ℕ
-nextLink s p = cond (isPointer s p) (Option·getD (namedBy s p) 0) 0
-
--- the tables of the models and the submodels, of a recipe that row 5 does not refuse
-pub record Linked (s : Recipe) (model sub : List ℕ) : Type 0 where
+-- the cells 3 and 4 of each record, of a recipe that rows 1 to 5 do not refuse
+pub record Pointed (s : Recipe) (t : List ℕ) : Type 0 where
+  pub numbered : Numbered s t
   pub declared : fault₅ s ≡ none
-  pub models : ByPlace s (modelLink s) model
-  pub submodels-are : ByPlace s (submodelLink s) sub
+  pub uppers : Cell (places s) 3 (upperOf s) t
+  pub lowers : Cell (places s) 4 (lowerOf s) t

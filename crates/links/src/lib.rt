@@ -1,71 +1,79 @@
-// What the records of a recipe name: the refusals 4 and 5, and by place the record that each field names. Names are w wide, which is 12; tables are lent.
-// For the floors above: index_names, first_repeated, first_undeclared, and link_models, _owners, _submodels, _parents, _references, _targets.
+// What the records of a recipe name: rows 4 and 5, and in the shadow the record that each field names.
+// For the floors above: resolve_names. The four tables are the index of the names; where `at` is lent it is cut to the number of records.
 ghost use mathlib.Core.Path.{_≡_};
-ghost use mathlib.Core.Logic.{_⊎_};
-ghost use mathlib.Core.Option.{none};
-ghost use mathlib.Core.Bool.{true, not, _||_};
+ghost use mathlib.Core.Bool.{true, cond};
+ghost use mathlib.Core.Option.{none, Option·getD};
 ghost use Prim.Native.Nat.{_+_, _*_, _≤_, _<_};
-ghost use lib.ListN.{length, getD};
-ghost use Rattle.names.specs.Lists.{isSome};
-ghost use Rattle.names.specs.Names.{fieldAt, text};
+ghost use lib.ListN.{length, take, set};
+ghost use Rattle.names.specs.Lists.{In};
+ghost use Rattle.names.specs.Names.{fieldAt, text, isNameOrBlank, isBlank};
 ghost use Rattle.names.specs.Scans.{foundOf};
-ghost use Rattle.recipe.specs.Records.{Recipe, portKind, markKind, pointerKind};
-ghost use Rattle.recipe.specs.Definitions.{holder, definitionNamed, portNamed, namedBy};
-ghost use Rattle.recipe.specs.Reading.{fault₄, isParentFault, isOwnPortFault, isPortFault, isModelFault, isSubmodelFieldFault, isOwnerFault, isUndeclared, fault₅};
-ghost use Rattle.links.specs.Entries.{tagOf, keyOf, Clear, Listed, ByPlace, Copied, HasKeys, Indexed, entryNamed, declaredNamed, NameField};
-ghost use Rattle.links.specs.Links.{Named, Recorded, placeOf, modelLink, ownerLink, submodelLink, elementLink, parentLink, referenceLink, nextLink, Linked};
+ghost use Rattle.names.specs.Judging.{judged, handed};
+ghost use Rattle.names.specs.declared.Found.the-variants.{Nothing};
+ghost use Rattle.recipe.specs.Records.{recipeAt, places, ownedKind, kind, submodelField};
+ghost use Rattle.recipe.specs.Definitions.{elementIn, namedBy};
+ghost use Rattle.recipe.specs.Reading.{fault₃, fault₄, isParentFault, fault₅};
+ghost use Rattle.recipe.specs.Fields.{elementFields, portFields, submodelFields, markFields};
+ghost use Rattle.shadow.specs.Shadow.{Cell};
+ghost use Rattle.shadow.specs.Columns.{Numbered, Linked};
+ghost use Rattle.links.specs.Entries.{tagOf, keyOf, keyAt, Entered, Indexed, Named, recordNamed, SoughtIn, answerOf};
+ghost use Rattle.links.specs.Links.{declaredRows, Recorded, Unowned, isPointing, linksOf, ownOf, Pointed};
 use name_index::Layout;
 use names::Found;
+use names::Refusal;
+use recipe::ElementFields;
+use recipe::Mark;
+use recipe::PortFields;
+use recipe::Read;
+use recipe::Record;
+use recipe::SubmodelFields;
+use recipe::Way;
 
-// Writes the places of the records, in order, and gives their number.
-fn list_records(s: &[u8], w: usize, at: &mut [u16]) -> usize
-    requires { ⌜ Clear (record { width = w; bytes = now s }) × (1536 ≤ length (now at)) ⌝ }
-    ensures { λ r. ⌜ Listed (record { width = w; bytes = now (s .entry) }) (now (at .exit)) r ⌝ }
-{
-    let mut i = 0;
-    let mut p = 0;
-    while p < s.len() {
-        at[i] = p as u16;
-        i += 1;
-        p += recipe::record_length(s[p], w);
-    }
-    i
+// The most records of a recipe, rounded up, and its most bytes.
+const MOST_RECORDS: usize = 1536;
+
+const MOST_BYTES: usize = 16384;
+
+// How many numbers a name has in a key.
+const NAME_NUMBERS: u32 = 32768;
+
+// What is looked up: a record of kind 1 to 4, of a definition unless it is a model, by the name at an offset of the recipe.
+struct Sought {
+    kind: u8,
+    definition: usize,
+    name: usize,
 }
 
-// Writes by place the definition that holds each record.
-fn hold_records(s: &[u8], w: usize, at: &[u16], n: usize, hold: &mut [u16; 16384])
-    requires { ⌜ Clear (record { width = w; bytes = now s }) × (Listed (record { width = w; bytes = now s }) (now at) n × (length (now hold) ≡ 16384)) ⌝ }
-    ensures { λ r. ⌜ ByPlace (record { width = w; bytes = now (s .entry) }) (holder (record { width = w; bytes = now (s .entry) })) (now (hold .exit)) × (length (now (hold .exit)) ≡ 16384) ⌝ }
-{
-    let mut d = 0;
-    let mut i = 0;
-    while i < n {
-        let p = at[i];
-        if s[p as usize] == 1 {
-            hold[p as usize] = p;
-            d = p;
-            i += 1;
-        } else {
-            hold[p as usize] = d;
-            i += 1;
-        }
-    }
+// The record that a look-up gives, 0 where it is missing.
+struct Answer {
+    missing: bool,
+    place: u16,
 }
 
-// Writes the first field of each record, in order.
-fn copy_fields(s: &[u8], w: usize, at: &[u16], n: usize, fields: &mut [u8])
-    requires { ⌜ Clear (record { width = w; bytes = now s }) × (Listed (record { width = w; bytes = now s }) (now at) n × (16384 ≤ length (now fields))) ⌝ }
-    ensures { λ r. ⌜ Copied (record { width = w; bytes = now (s .entry) }) (now (fields .exit)) n ⌝ }
+// A record and the definition that holds it.
+struct Held {
+    place: usize,
+    definition: usize,
+}
+
+// Whether row 5 refuses a record, and what it names, by the cells 3 to 5.
+struct Links {
+    undeclared: bool,
+    upper: u16,
+    lower: u16,
+    own: u16,
+}
+
+// Space n of the record at p: of a definition, or of a record that has one of its own.
+fn space(p: usize, n: u32) -> u32
+    requires { ⌜ (p < 16384) × (n < 8) ⌝ }
+    ensures { λ r. ⌜ (r ≡ 8 * p + n) × (r < 131072) ⌝ }
 {
-    let mut i = 0;
-    while i < n {
-        names::put_bytes(s, at[i] as usize + 1, w, fields, i * w);
-        i += 1;
-    }
+    8 * (p as u32) + n
 }
 
 // Where a record of kind k at p, of definition d, has its name.
-fn tag(k: u8, p: u16, d: u16) -> u32
+fn tag(k: u8, p: usize, d: usize) -> u32
     requires { ⌜ (p < 16384) × (d < 16384) ⌝ }
     ensures { λ r. ⌜ (r ≡ tagOf k p d) × (r < 131072) ⌝ }
 {
@@ -73,15 +81,15 @@ fn tag(k: u8, p: u16, d: u16) -> u32
         return 0;
     }
     if recipe::is_port(k) {
-        return 8 * (d as u32) + 2;
+        return space(d, 2);
     }
     if recipe::is_replaced_by(k) {
-        return 8 * (d as u32) + 3;
+        return space(d, 3);
     }
     if (k == 2) | (k == 4) {
-        return 8 * (d as u32) + 1;
+        return space(d, 1);
     }
-    8 * (p as u32) + 4
+    space(p, 4)
 }
 
 // The key of a name in a space.
@@ -89,7 +97,7 @@ fn key(t: u32, f: &[u8]) -> u32
     requires { ⌜ t < 131072 ⌝ }
     ensures { λ r. ⌜ r ≡ keyOf t (now (f .entry)) ⌝ }
 {
-    t * 32768 + name_index::hash(f) % 32768
+    t * NAME_NUMBERS + name_index::hash(f) % NAME_NUMBERS
 }
 
 // The w bytes from `at` on.
@@ -101,37 +109,53 @@ fn field(s: &[u8], at: usize, w: usize) -> &[u8]
     &s[at..end]
 }
 
-// Writes the key of each record, in order.
-fn fill_keys(s: &[u8], w: usize, at: &[u16], n: usize, hold: &[u16; 16384], keys: &mut [u32])
-    requires { ⌜ Clear (record { width = w; bytes = now s }) × (Listed (record { width = w; bytes = now s }) (now at) n × (ByPlace (record { width = w; bytes = now s }) (holder (record { width = w; bytes = now s })) (now hold) × (1536 ≤ length (now keys)))) ⌝ }
-    ensures { λ r. ⌜ HasKeys (record { width = w; bytes = now (s .entry) }) (now (keys .exit)) n × (length (now (keys .exit)) ≡ length (now (keys .entry))) ⌝ }
+// The key of the record at p.
+fn key_at(s: &[u8], w: usize, t: &[u16], p: usize) -> u32
+    requires { ⌜ Numbered (recipeAt w (now s)) (now t) × In p (places (recipeAt w (now s))) ⌝ }
+    ensures { λ r. ⌜ r ≡ keyAt (recipeAt w (now (s .entry))) p ⌝ }
 {
-    let mut i = 0;
-    while i < n {
-        let p = at[i];
-        let t = tag(s[p as usize], p, hold[p as usize]);
-        keys[i] = key(t, field(s, p as usize + 1, w));
-        i += 1;
-    }
+    let d = shadow::cell(t, p, shadow::DEFINITION_OF);
+    key(tag(s[p], p, d), field(s, p + 1, w))
 }
 
-// Fills the tables of the records, and the index of their names; gives the number of records.
-pub fn index_names(
+// Writes the place, the first field and the key of each record, in order, and gives their number.
+fn enter_records(
     s: &[u8],
     w: usize,
+    t: &[u16],
     at: &mut [u16],
-    hold: &mut [u16; 16384],
+    fields: &mut [u8],
+    keys: &mut [u32],
+) -> usize
+    requires { ⌜ Numbered (recipeAt w (now s)) (now t) × ((1536 ≤ length (now at)) × ((16384 ≤ length (now fields)) × (1536 ≤ length (now keys)))) ⌝ }
+    ensures { λ r. ⌜ (take r (now (at .exit)) ≡ places (recipeAt w (now (s .entry)))) × ((r ≡ length (places (recipeAt w (now (s .entry))))) × Entered (recipeAt w (now (s .entry))) (now (fields .exit)) (now (keys .exit))) ⌝ }
+{
+    let mut i = 0;
+    let mut p = 0;
+    while p < s.len() {
+        at[i] = p as u16;
+        names::put_bytes(s, p + 1, w, fields, i * w);
+        keys[i] = key_at(s, w, t, p);
+        i += 1;
+        p += recipe::record_length(s[p], w);
+    }
+    i
+}
+
+// Fills the tables of the records and the index of their names; gives the number of records.
+fn index_names(
+    s: &[u8],
+    w: usize,
+    t: &[u16],
+    at: &mut [u16],
     fields: &mut [u8],
     keys: &mut [u32],
     index: &mut [u16],
 ) -> usize
-    requires { ⌜ Clear (record { width = w; bytes = now s }) × ((1536 ≤ length (now at)) × ((length (now hold) ≡ 16384) × ((16384 ≤ length (now fields)) × ((1536 ≤ length (now keys)) × (1536 ≤ length (now index)))))) ⌝ }
-    ensures { λ r. ⌜ Indexed (record { width = w; bytes = now (s .entry) }) (now (at .exit)) (now (fields .exit)) (now (keys .exit)) (now (index .exit)) r × (ByPlace (record { width = w; bytes = now (s .entry) }) (holder (record { width = w; bytes = now (s .entry) })) (now (hold .exit)) × (length (now (hold .exit)) ≡ 16384)) ⌝ }
+    requires { ⌜ Numbered (recipeAt w (now s)) (now t) × ((fault₃ (recipeAt w (now s)) ≡ none) × ((1536 ≤ length (now at)) × ((16384 ≤ length (now fields)) × ((1536 ≤ length (now keys)) × (1536 ≤ length (now index)))))) ⌝ }
+    ensures { λ r. ⌜ (r ≤ 1536) × Indexed (recipeAt w (now (s .entry))) (take r (now (at .exit))) (now (fields .exit)) (now (keys .exit)) (now (index .exit)) ⌝ }
 {
-    let n = list_records(s, w, at);
-    hold_records(s, w, at, n, hold);
-    copy_fields(s, w, at, n, fields);
-    fill_keys(s, w, at, n, hold, keys);
+    let n = enter_records(s, w, t, at, fields, keys);
     let l = Layout {
         first: 0,
         stride: w,
@@ -141,670 +165,423 @@ pub fn index_names(
     n
 }
 
-// The first record to which 4 applies.
-pub fn first_repeated(
+// The first record to which row 4 applies.
+fn first_repeated(
     s: &[u8],
     w: usize,
-    n: usize,
     at: &[u16],
     fields: &[u8],
     keys: &[u32],
     index: &[u16],
 ) -> Found
-    requires { ⌜ Indexed (record { width = w; bytes = now s }) (now at) (now fields) (now keys) (now index) n ⌝ }
-    ensures { λ r. ⌜ r ≡ foundOf (fault₄ (record { width = w; bytes = now (s .entry) })) ⌝ }
+    requires { ⌜ Indexed (recipeAt w (now s)) (now at) (now fields) (now keys) (now index) ⌝ }
+    ensures { λ r. ⌜ r ≡ foundOf (fault₄ (recipeAt w (now (s .entry)))) ⌝ }
 {
     let l = Layout {
         first: 0,
         stride: w,
         width: w,
     };
-    let Found::At(i) = name_index::first_repeat(fields, l, n, keys, index) else {
+    let Found::At(i) = name_index::first_repeat(fields, l, at.len(), keys, index) else {
         return Found::Nothing;
     };
-    Found::At(at[i] as usize)
+    Found::At(shadow::cell(at, i, 0))
 }
 
-// The record whose name is in the space t, and whose first field is f.
-fn find_entry(
+// Looks a record up.
+fn find_record(
     s: &[u8],
     w: usize,
-    n: usize,
     at: &[u16],
     fields: &[u8],
     keys: &[u32],
     index: &[u16],
-    t: u32,
-    f: &[u8],
-) -> Found
-    requires { ⌜ Indexed (record { width = w; bytes = now s }) (now at) (now fields) (now keys) (now index) n × (t < 131072) ⌝ }
-    ensures { λ r. ⌜ r ≡ foundOf (entryNamed (record { width = w; bytes = now (s .entry) }) t (now (f .entry))) ⌝ }
+    q: Sought,
+) -> Answer
+    requires { ⌜ Named (recipeAt w (now s)) (now at) (now fields) (now keys) (now index) × SoughtIn (recipeAt w (now s)) q ⌝ }
+    ensures { λ r. ⌜ r ≡ answerOf (recordNamed (recipeAt w (now (s .entry))) (q .kind) (q .definition) (text (fieldAt w (now (s .entry)) (q .name)))) ⌝ }
 {
     let l = Layout {
         first: 0,
         stride: w,
         width: w,
     };
-    let Found::At(i) = name_index::find(fields, l, n, keys, index, key(t, f), f) else {
-        return Found::Nothing;
+    let f = field(s, q.name, w);
+    let k = key(tag(q.kind, 0, q.definition), f);
+    let Found::At(i) = name_index::find(fields, l, at.len(), keys, index, k, f) else {
+        return Answer {
+            missing: true,
+            place: 0,
+        };
     };
-    Found::At(at[i] as usize)
+    let p = shadow::cell(at, i, 0);
+    if s[p] == q.kind {
+        return Answer {
+            missing: false,
+            place: p as u16,
+        };
+    }
+    Answer {
+        missing: true,
+        place: 0,
+    }
 }
 
-// The definition of the model that the field f names.
-fn find_definition(
+// The element of the record's definition that the field at q names; a blank names none.
+fn find_element(
     s: &[u8],
     w: usize,
-    n: usize,
     at: &[u16],
     fields: &[u8],
     keys: &[u32],
     index: &[u16],
-    f: &[u8],
+    h: Held,
+    q: usize,
+) -> Answer
+    requires { ⌜ Recorded (recipeAt w (now s)) (now at) (now fields) (now keys) (now index) h × ((q + w ≤ length (now s)) × (isNameOrBlank (fieldAt w (now s) q) ≡ true)) ⌝ }
+    ensures { λ r. ⌜ r ≡ answerOf (elementIn (recipeAt w (now (s .entry))) (h .place) (fieldAt w (now (s .entry)) q)) ⌝ }
+{
+    if names::is_blank(field(s, q, w)) {
+        return Answer {
+            missing: true,
+            place: 0,
+        };
+    }
+    let sought = Sought {
+        kind: 2,
+        definition: h.definition,
+        name: q,
+    };
+    find_record(s, w, at, fields, keys, index, sought)
+}
+
+// Whether row 5 refuses the element at p, whose parent field names a.
+fn parent_fault(s: &[u8], w: usize, p: usize, e: ElementFields, a: Answer) -> bool
+    requires { ⌜ In p (places (recipeAt w (now s))) × ((kind (recipeAt w (now s)) p ≡ 2) × ((e ≡ elementFields (recipeAt w (now s)) p) × (a ≡ answerOf (elementIn (recipeAt w (now s)) p (fieldAt w (now s) (e .parent)))))) ⌝ }
+    ensures { λ r. ⌜ r ≡ isParentFault (recipeAt w (now (s .entry))) p ⌝ }
+{
+    if a.missing {
+        let b = names::is_blank(field(s, e.parent, w));
+        return !(b & flat_table::parent_may_be_blank(e.class));
+    }
+    let q = recipe::wide(a.place);
+    !((q < p) & flat_table::parent_allowed(e.class, s[q + 1 + w]))
+}
+
+// An element: its parent and reference.
+fn link_element(
+    s: &[u8],
+    w: usize,
+    at: &[u16],
+    fields: &[u8],
+    keys: &[u32],
+    index: &[u16],
+    h: Held,
+    e: ElementFields,
+) -> Links
+    requires { ⌜ Recorded (recipeAt w (now s)) (now at) (now fields) (now keys) (now index) h × ((kind (recipeAt w (now s)) (h .place) ≡ 2) × (e ≡ elementFields (recipeAt w (now s)) (h .place))) ⌝ }
+    ensures { λ r. ⌜ r ≡ linksOf (recipeAt w (now (s .entry))) (h .place) ⌝ }
+{
+    let parent = find_element(s, w, at, fields, keys, index, h, e.parent);
+    let reference = find_element(s, w, at, fields, keys, index, h, e.reference);
+    Links {
+        undeclared: parent_fault(s, w, h.place, e, parent),
+        upper: parent.place,
+        lower: reference.place,
+        own: 0,
+    }
+}
+
+// A submodel: its model.
+fn link_submodel(
+    s: &[u8],
+    w: usize,
+    at: &[u16],
+    fields: &[u8],
+    keys: &[u32],
+    index: &[u16],
+    h: Held,
+    e: SubmodelFields,
+) -> Links
+    requires { ⌜ Recorded (recipeAt w (now s)) (now at) (now fields) (now keys) (now index) h × ((kind (recipeAt w (now s)) (h .place) ≡ 4) × (e ≡ submodelFields (recipeAt w (now s)) (h .place))) ⌝ }
+    ensures { λ r. ⌜ r ≡ linksOf (recipeAt w (now (s .entry))) (h .place) ⌝ }
+{
+    let sought = Sought {
+        kind: 1,
+        definition: h.definition,
+        name: e.model,
+    };
+    let a = find_record(s, w, at, fields, keys, index, sought);
+    Links {
+        undeclared: a.missing,
+        upper: a.place,
+        lower: 0,
+        own: 0,
+    }
+}
+
+// A port with a blank submodel: the element that it names.
+fn link_own_port(
+    s: &[u8],
+    w: usize,
+    at: &[u16],
+    fields: &[u8],
+    keys: &[u32],
+    index: &[u16],
+    h: Held,
+    e: PortFields,
+) -> Links
+    requires { ⌜ Recorded (recipeAt w (now s)) (now at) (now fields) (now keys) (now index) h × ((kind (recipeAt w (now s)) (h .place) ≡ 3) × ((e ≡ portFields (recipeAt w (now s)) (h .place)) × (isBlank (submodelField (recipeAt w (now s)) (h .place)) ≡ true))) ⌝ }
+    ensures { λ r. ⌜ r ≡ linksOf (recipeAt w (now (s .entry))) (h .place) ⌝ }
+{
+    let target = e.target;
+    let Way::ByElement(q) = target else {
+        return Links {
+            undeclared: true,
+            upper: 0,
+            lower: 0,
+            own: 0,
+        };
+    };
+    let sought = Sought {
+        kind: 2,
+        definition: h.definition,
+        name: q,
+    };
+    let a = find_record(s, w, at, fields, keys, index, sought);
+    Links {
+        undeclared: a.missing,
+        upper: 0,
+        lower: 0,
+        own: a.place,
+    }
+}
+
+// A port or deletion that names a submodel, by the field at q.
+fn link_pointer(
+    s: &[u8],
+    w: usize,
+    at: &[u16],
+    fields: &[u8],
+    keys: &[u32],
+    index: &[u16],
+    h: Held,
+    q: usize,
+) -> Links
+    requires { ⌜ Recorded (recipeAt w (now s)) (now at) (now fields) (now keys) (now index) h × Unowned (recipeAt w (now s)) (h .place) q ⌝ }
+    ensures { λ r. ⌜ r ≡ linksOf (recipeAt w (now (s .entry))) (h .place) ⌝ }
+{
+    let sought = Sought {
+        kind: 4,
+        definition: h.definition,
+        name: q,
+    };
+    let a = find_record(s, w, at, fields, keys, index, sought);
+    Links {
+        undeclared: a.missing,
+        upper: 0,
+        lower: a.place,
+        own: 0,
+    }
+}
+
+// A port: its submodel, or of a blank the element that it names.
+fn link_port(
+    s: &[u8],
+    w: usize,
+    at: &[u16],
+    fields: &[u8],
+    keys: &[u32],
+    index: &[u16],
+    h: Held,
+    e: PortFields,
+) -> Links
+    requires { ⌜ Recorded (recipeAt w (now s)) (now at) (now fields) (now keys) (now index) h × ((kind (recipeAt w (now s)) (h .place) ≡ 3) × (e ≡ portFields (recipeAt w (now s)) (h .place))) ⌝ }
+    ensures { λ r. ⌜ r ≡ linksOf (recipeAt w (now (s .entry))) (h .place) ⌝ }
+{
+    if names::is_blank(field(s, e.submodel, w)) {
+        return link_own_port(s, w, at, fields, keys, index, h, e);
+    }
+    link_pointer(s, w, at, fields, keys, index, h, e.submodel)
+}
+
+// A mark with an owner: its owner and submodel.
+fn link_owned(
+    s: &[u8],
+    w: usize,
+    at: &[u16],
+    fields: &[u8],
+    keys: &[u32],
+    index: &[u16],
+    h: Held,
+    m: Mark,
+) -> Links
+    requires { ⌜ Recorded (recipeAt w (now s)) (now at) (now fields) (now keys) (now index) h × ((ownedKind (kind (recipeAt w (now s)) (h .place)) ≡ true) × (m ≡ markFields (recipeAt w (now s)) (h .place))) ⌝ }
+    ensures { λ r. ⌜ r ≡ linksOf (recipeAt w (now (s .entry))) (h .place) ⌝ }
+{
+    let owner = find_element(s, w, at, fields, keys, index, h, m.owner);
+    let sought = Sought {
+        kind: 4,
+        definition: h.definition,
+        name: m.submodel,
+    };
+    let submodel = find_record(s, w, at, fields, keys, index, sought);
+    Links {
+        undeclared: submodel.missing | owner.missing,
+        upper: owner.place,
+        lower: submodel.place,
+        own: 0,
+    }
+}
+
+// Looks up what a record names.
+fn link_record(
+    s: &[u8],
+    w: usize,
+    at: &[u16],
+    fields: &[u8],
+    keys: &[u32],
+    index: &[u16],
+    h: Held,
+) -> Links
+    requires { ⌜ Recorded (recipeAt w (now s)) (now at) (now fields) (now keys) (now index) h ⌝ }
+    ensures { λ r. ⌜ r ≡ linksOf (recipeAt w (now (s .entry))) (h .place) ⌝ }
+{
+    let nothing = Links {
+        undeclared: false,
+        upper: 0,
+        lower: 0,
+        own: 0,
+    };
+    let Read::As(r) = recipe::read_record(s, w, h.place) else {
+        return nothing;
+    };
+    match r {
+        Record::Model(_) => nothing,
+        Record::Element(e) => link_element(s, w, at, fields, keys, index, h, e),
+        Record::Port(e) => link_port(s, w, at, fields, keys, index, h, e),
+        Record::Submodel(e) => link_submodel(s, w, at, fields, keys, index, h, e),
+        Record::Deletion(m) => link_pointer(s, w, at, fields, keys, index, h, m.submodel),
+        Record::Replacement(m) => link_owned(s, w, at, fields, keys, index, h, m),
+        Record::ReplacedBy(m) => link_owned(s, w, at, fields, keys, index, h, m),
+    }
+}
+
+// Links each record, up to the first to which row 5 applies.
+fn link_records(
+    s: &[u8],
+    w: usize,
+    at: &[u16],
+    fields: &[u8],
+    keys: &[u32],
+    index: &[u16],
+    t: &mut [u16],
 ) -> Found
-    requires { ⌜ Indexed (record { width = w; bytes = now s }) (now at) (now fields) (now keys) (now index) n × NameField w (now f) ⌝ }
-    ensures { λ r. ⌜ r ≡ foundOf (definitionNamed (record { width = w; bytes = now (s .entry) }) (text (now (f .entry)))) ⌝ }
+    requires { ⌜ Named (recipeAt w (now s)) (now at) (now fields) (now keys) (now index) × Numbered (recipeAt w (now s)) (now t) ⌝ }
+    ensures { λ r. ⌜ (r ≡ foundOf (fault₅ (recipeAt w (now (s .entry))))) × (r ≡ Nothing → Pointed (recipeAt w (now (s .entry))) (now (t .exit)) × Cell (places (recipeAt w (now (s .entry)))) 5 (ownOf (recipeAt w (now (s .entry)))) (now (t .exit))) ⌝ }
 {
-    find_entry(s, w, n, at, fields, keys, index, 0, f)
-}
-
-// The port of definition d that the field f names.
-fn find_port(
-    s: &[u8],
-    w: usize,
-    n: usize,
-    at: &[u16],
-    fields: &[u8],
-    keys: &[u32],
-    index: &[u16],
-    d: u16,
-    f: &[u8],
-) -> Found
-    requires { ⌜ Indexed (record { width = w; bytes = now s }) (now at) (now fields) (now keys) (now index) n × ((d < 16384) × NameField w (now f)) ⌝ }
-    ensures { λ r. ⌜ r ≡ foundOf (portNamed (record { width = w; bytes = now (s .entry) }) d (text (now (f .entry)))) ⌝ }
-{
-    find_entry(s, w, n, at, fields, keys, index, 8 * (d as u32) + 2, f)
-}
-
-// The element (k is 2) or submodel (k is 4) of definition d that the field f names.
-fn find_declared(
-    s: &[u8],
-    w: usize,
-    n: usize,
-    at: &[u16],
-    fields: &[u8],
-    keys: &[u32],
-    index: &[u16],
-    k: u8,
-    d: u16,
-    f: &[u8],
-) -> Found
-    requires { ⌜ Indexed (record { width = w; bytes = now s }) (now at) (now fields) (now keys) (now index) n × ((fault₄ (record { width = w; bytes = now s }) ≡ none) × (((k ≡ 2) ⊎ (k ≡ 4)) × ((d < 16384) × NameField w (now f)))) ⌝ }
-    ensures { λ r. ⌜ r ≡ foundOf (declaredNamed (record { width = w; bytes = now (s .entry) }) k d (text (now (f .entry)))) ⌝ }
-{
-    let Found::At(p) = find_entry(s, w, n, at, fields, keys, index, 8 * (d as u32) + 1, f) else {
-        return Found::Nothing;
-    };
-    if s[p] == k {
-        return Found::At(p);
-    }
-    Found::Nothing
-}
-
-// Whether definition d has no element (k is 2) or submodel (k is 4) that the field f names.
-fn is_missing(
-    s: &[u8],
-    w: usize,
-    n: usize,
-    at: &[u16],
-    fields: &[u8],
-    keys: &[u32],
-    index: &[u16],
-    k: u8,
-    d: u16,
-    f: &[u8],
-) -> bool
-    requires { ⌜ Named (record { width = w; bytes = now s }) (now at) (now fields) (now keys) (now index) n × (((k ≡ 2) ⊎ (k ≡ 4)) × ((d < 16384) × NameField w (now f))) ⌝ }
-    ensures { λ r. ⌜ r ≡ not (isSome (declaredNamed (record { width = w; bytes = now (s .entry) }) k d (text (now (f .entry))))) ⌝ }
-{
-    let Found::At(_) = find_declared(s, w, n, at, fields, keys, index, k, d, f) else {
-        return true;
-    };
-    false
-}
-
-// Whether 5 applies to the element at p, by its parent.
-fn parent_fault(
-    s: &[u8],
-    w: usize,
-    n: usize,
-    at: &[u16],
-    fields: &[u8],
-    keys: &[u32],
-    index: &[u16],
-    p: usize,
-    d: u16,
-) -> bool
-    requires { ⌜ Recorded (record { width = w; bytes = now s }) (now at) (now fields) (now keys) (now index) n p d × (getD (now s) p 0 ≡ 2) ⌝ }
-    ensures { λ r. ⌜ r ≡ isParentFault (record { width = w; bytes = now (s .entry) }) p ⌝ }
-{
-    let c = s[p + 1 + w];
-    let f = field(s, p + 1 + (w + 1), w);
-    if names::is_blank(f) {
-        return !flat_table::parent_may_be_blank(c);
-    }
-    let Found::At(q) = find_declared(s, w, n, at, fields, keys, index, 2, d, f) else {
-        return true;
-    };
-    !((q < p) & flat_table::parent_allowed(c, s[q + 1 + w]))
-}
-
-// Whether 5 applies to the port at p, whose submodel is blank.
-fn own_port_fault(
-    s: &[u8],
-    w: usize,
-    n: usize,
-    at: &[u16],
-    fields: &[u8],
-    keys: &[u32],
-    index: &[u16],
-    p: usize,
-    d: u16,
-) -> bool
-    requires { ⌜ Recorded (record { width = w; bytes = now s }) (now at) (now fields) (now keys) (now index) n p d × (portKind (getD (now s) p 0) ≡ true) ⌝ }
-    ensures { λ r. ⌜ r ≡ isOwnPortFault (record { width = w; bytes = now (s .entry) }) p ⌝ }
-{
-    if s[p + 1 + (w + w)] == 1 {
-        return true;
-    }
-    is_missing(
-        s,
-        w,
-        n,
-        at,
-        fields,
-        keys,
-        index,
-        2,
-        d,
-        field(s, p + 1 + (w + w + 1), w),
-    )
-}
-
-// Whether 5 applies to the port at p.
-fn port_fault(
-    s: &[u8],
-    w: usize,
-    n: usize,
-    at: &[u16],
-    fields: &[u8],
-    keys: &[u32],
-    index: &[u16],
-    p: usize,
-    d: u16,
-) -> bool
-    requires { ⌜ Recorded (record { width = w; bytes = now s }) (now at) (now fields) (now keys) (now index) n p d × (portKind (getD (now s) p 0) ≡ true) ⌝ }
-    ensures { λ r. ⌜ r ≡ isPortFault (record { width = w; bytes = now (s .entry) }) p ⌝ }
-{
-    let f = field(s, p + 1 + w, w);
-    if names::is_blank(f) {
-        return own_port_fault(s, w, n, at, fields, keys, index, p, d);
-    }
-    is_missing(s, w, n, at, fields, keys, index, 4, d, f)
-}
-
-// Whether 5 applies to the submodel at p.
-fn model_fault(
-    s: &[u8],
-    w: usize,
-    n: usize,
-    at: &[u16],
-    fields: &[u8],
-    keys: &[u32],
-    index: &[u16],
-    p: usize,
-    d: u16,
-) -> bool
-    requires { ⌜ Recorded (record { width = w; bytes = now s }) (now at) (now fields) (now keys) (now index) n p d × (getD (now s) p 0 ≡ 4) ⌝ }
-    ensures { λ r. ⌜ r ≡ isModelFault (record { width = w; bytes = now (s .entry) }) p ⌝ }
-{
-    let Found::At(_) = find_definition(s, w, n, at, fields, keys, index, field(s, p + 1 + w, w))
-    else {
-        return true;
-    };
-    false
-}
-
-// Whether 5 applies to the mark at p.
-fn mark_fault(
-    s: &[u8],
-    w: usize,
-    n: usize,
-    at: &[u16],
-    fields: &[u8],
-    keys: &[u32],
-    index: &[u16],
-    p: usize,
-    d: u16,
-) -> bool
-    requires { ⌜ Recorded (record { width = w; bytes = now s }) (now at) (now fields) (now keys) (now index) n p d × (markKind (getD (now s) p 0) ≡ true) ⌝ }
-    ensures { λ r. ⌜ r ≡ isSubmodelFieldFault (record { width = w; bytes = now (s .entry) }) p || isOwnerFault (record { width = w; bytes = now (s .entry) }) p ⌝ }
-{
-    let k = s[p];
-    let o = recipe::submodel_offset(k, w);
-    if is_missing(
-        s,
-        w,
-        n,
-        at,
-        fields,
-        keys,
-        index,
-        4,
-        d,
-        field(s, p + 1 + o, w),
-    ) {
-        return true;
-    }
-    if !recipe::is_owned(k) {
-        return false;
-    }
-    is_missing(s, w, n, at, fields, keys, index, 2, d, field(s, p + 1, w))
-}
-
-// Whether 5 applies to the record at p.
-fn is_undeclared(
-    s: &[u8],
-    w: usize,
-    n: usize,
-    at: &[u16],
-    fields: &[u8],
-    keys: &[u32],
-    index: &[u16],
-    p: usize,
-    d: u16,
-) -> bool
-    requires { ⌜ Recorded (record { width = w; bytes = now s }) (now at) (now fields) (now keys) (now index) n p d ⌝ }
-    ensures { λ r. ⌜ r ≡ isUndeclared (record { width = w; bytes = now (s .entry) }) p ⌝ }
-{
-    let k = s[p];
-    if k == 1 {
-        return false;
-    }
-    if k == 2 {
-        return parent_fault(s, w, n, at, fields, keys, index, p, d);
-    }
-    if recipe::is_port(k) {
-        return port_fault(s, w, n, at, fields, keys, index, p, d);
-    }
-    if k == 4 {
-        return model_fault(s, w, n, at, fields, keys, index, p, d);
-    }
-    if recipe::is_mark(k) {
-        return mark_fault(s, w, n, at, fields, keys, index, p, d);
-    }
-    false
-}
-
-// The first record to which 5 applies.
-pub fn first_undeclared(
-    s: &[u8],
-    w: usize,
-    n: usize,
-    at: &[u16],
-    fields: &[u8],
-    keys: &[u32],
-    index: &[u16],
-    hold: &[u16; 16384],
-) -> Found
-    requires { ⌜ Named (record { width = w; bytes = now s }) (now at) (now fields) (now keys) (now index) n × ByPlace (record { width = w; bytes = now s }) (holder (record { width = w; bytes = now s })) (now hold) ⌝ }
-    ensures { λ r. ⌜ r ≡ foundOf (fault₅ (record { width = w; bytes = now (s .entry) })) ⌝ }
-{
-    let mut i = 0;
-    while i < n {
-        let p = at[i] as usize;
-        if is_undeclared(s, w, n, at, fields, keys, index, p, hold[p]) {
+    let mut p = 0;
+    while p < s.len() {
+        let h = Held {
+            place: p,
+            definition: shadow::cell(t, p, shadow::DEFINITION_OF),
+        };
+        let l = link_record(s, w, at, fields, keys, index, h);
+        if l.undeclared {
             return Found::At(p);
         }
-        i += 1;
+        shadow::set_cell(t, p, shadow::OWNER, recipe::wide(l.upper));
+        shadow::set_cell(t, p, shadow::SUBMODEL, recipe::wide(l.lower));
+        shadow::set_cell(t, p, shadow::NAMED_RECORD, recipe::wide(l.own));
+        p += recipe::record_length(s[p], w);
     }
     Found::Nothing
 }
 
-// The place that a look-up gives, or 0.
-fn place_of(r: Found) -> u16
-    requires { ⌜ placeOf r < 65536 ⌝ }
-    ensures { λ q. ⌜ q ≡ placeOf r ⌝ }
-{
-    match r {
-        Found::At(p) => p as u16,
-        Found::Nothing => 0,
-    }
-}
-
-// A submodel's model, and 0 of another record.
-fn model_at(
+// Writes what the record at p names, if it is a port or mark with a submodel.
+fn name_target(
     s: &[u8],
     w: usize,
-    n: usize,
     at: &[u16],
     fields: &[u8],
     keys: &[u32],
     index: &[u16],
+    t: &mut [u16],
     p: usize,
-    d: u16,
-) -> u16
-    requires { ⌜ Recorded (record { width = w; bytes = now s }) (now at) (now fields) (now keys) (now index) n p d ⌝ }
-    ensures { λ r. ⌜ r ≡ modelLink (record { width = w; bytes = now (s .entry) }) p ⌝ }
-{
-    if s[p] != 4 {
-        return 0;
-    }
-    place_of(find_definition(s, w, n, at, fields, keys, index, field(s, p + 1 + w, w)))
-}
-
-// The owner of a mark that has one, and 0 of another record.
-fn owner_at(
-    s: &[u8],
-    w: usize,
-    n: usize,
-    at: &[u16],
-    fields: &[u8],
-    keys: &[u32],
-    index: &[u16],
-    p: usize,
-    d: u16,
-) -> u16
-    requires { ⌜ Recorded (record { width = w; bytes = now s }) (now at) (now fields) (now keys) (now index) n p d ⌝ }
-    ensures { λ r. ⌜ r ≡ ownerLink (record { width = w; bytes = now (s .entry) }) p ⌝ }
-{
-    let k = s[p];
-    if recipe::is_owned(k) {
-        return place_of(find_declared(s, w, n, at, fields, keys, index, 2, d, field(s, p + 1, w)));
-    }
-    0
-}
-
-// The submodel of a port or mark, and 0 of a blank and of another record.
-fn submodel_at(
-    s: &[u8],
-    w: usize,
-    n: usize,
-    at: &[u16],
-    fields: &[u8],
-    keys: &[u32],
-    index: &[u16],
-    p: usize,
-    d: u16,
-) -> u16
-    requires { ⌜ Recorded (record { width = w; bytes = now s }) (now at) (now fields) (now keys) (now index) n p d ⌝ }
-    ensures { λ r. ⌜ r ≡ submodelLink (record { width = w; bytes = now (s .entry) }) p ⌝ }
+)
+    requires { ⌜ Named (recipeAt w (now s)) (now at) (now fields) (now keys) (now index) × (Pointed (recipeAt w (now s)) (now t) × In p (places (recipeAt w (now s)))) ⌝ }
+    ensures { λ _. ⌜ now (t .exit) ≡ cond (isPointing (recipeAt w (now (s .entry))) p) (set (now (t .entry)) (p + 5) (Option·getD (namedBy (recipeAt w (now (s .entry))) p) 0)) (now (t .entry)) ⌝ }
 {
     let k = s[p];
     if !recipe::is_pointer(k) {
-        return 0;
+        return;
     }
-    let f = field(s, p + 1 + recipe::submodel_offset(k, w), w);
-    if names::is_blank(f) {
-        return 0;
+    let m = shadow::cell(t, p, shadow::SUBMODEL);
+    if m == 0 {
+        return;
     }
-    place_of(find_declared(s, w, n, at, fields, keys, index, 4, d, f))
+    let way = p + 1 + (recipe::submodel_offset(k, w) + w);
+    let sought = Sought {
+        kind: 2 + s[way],
+        definition: shadow::cell(t, m, shadow::MODEL),
+        name: way + 1,
+    };
+    let a = find_record(s, w, at, fields, keys, index, sought);
+    shadow::set_cell(t, p, shadow::NAMED_RECORD, recipe::wide(a.place));
 }
 
-// The element that the parent (the field at o, w + 1) or the reference (w + (1 + w)) names, and 0 of a blank.
-fn element_at(
+// Writes what each port and mark names that has a submodel.
+fn name_targets(
     s: &[u8],
     w: usize,
-    n: usize,
     at: &[u16],
     fields: &[u8],
     keys: &[u32],
     index: &[u16],
-    p: usize,
-    d: u16,
-    o: usize,
-) -> u16
-    requires { ⌜ Recorded (record { width = w; bytes = now s }) (now at) (now fields) (now keys) (now index) n p d × ((getD (now s) p 0 ≡ 2) × ((o ≡ w + 1) ⊎ (o ≡ w + (1 + w)))) ⌝ }
-    ensures { λ r. ⌜ r ≡ elementLink (record { width = w; bytes = now (s .entry) }) p o ⌝ }
-{
-    let f = field(s, p + 1 + o, w);
-    if names::is_blank(f) {
-        return 0;
-    }
-    place_of(find_declared(s, w, n, at, fields, keys, index, 2, d, f))
-}
-
-// The element that an element's parent names, and 0 of another record.
-fn parent_at(
-    s: &[u8],
-    w: usize,
-    n: usize,
-    at: &[u16],
-    fields: &[u8],
-    keys: &[u32],
-    index: &[u16],
-    p: usize,
-    d: u16,
-) -> u16
-    requires { ⌜ Recorded (record { width = w; bytes = now s }) (now at) (now fields) (now keys) (now index) n p d ⌝ }
-    ensures { λ r. ⌜ r ≡ parentLink (record { width = w; bytes = now (s .entry) }) p ⌝ }
-{
-    if s[p] != 2 {
-        return 0;
-    }
-    element_at(s, w, n, at, fields, keys, index, p, d, w + 1)
-}
-
-// The element that an element's reference names, and 0 of another record.
-fn reference_at(
-    s: &[u8],
-    w: usize,
-    n: usize,
-    at: &[u16],
-    fields: &[u8],
-    keys: &[u32],
-    index: &[u16],
-    p: usize,
-    d: u16,
-) -> u16
-    requires { ⌜ Recorded (record { width = w; bytes = now s }) (now at) (now fields) (now keys) (now index) n p d ⌝ }
-    ensures { λ r. ⌜ r ≡ referenceLink (record { width = w; bytes = now (s .entry) }) p ⌝ }
-{
-    if s[p] != 2 {
-        return 0;
-    }
-    element_at(s, w, n, at, fields, keys, index, p, d, w + (1 + w))
-}
-
-// Writes by place each submodel's model.
-pub fn link_models(
-    s: &[u8],
-    w: usize,
-    n: usize,
-    at: &[u16],
-    fields: &[u8],
-    keys: &[u32],
-    index: &[u16],
-    hold: &[u16; 16384],
-    out: &mut [u16; 16384],
+    t: &mut [u16],
 )
-    requires { ⌜ Named (record { width = w; bytes = now s }) (now at) (now fields) (now keys) (now index) n × (ByPlace (record { width = w; bytes = now s }) (holder (record { width = w; bytes = now s })) (now hold) × (length (now out) ≡ 16384)) ⌝ }
-    ensures { λ r. ⌜ ByPlace (record { width = w; bytes = now (s .entry) }) (modelLink (record { width = w; bytes = now (s .entry) })) (now (out .exit)) × (length (now (out .exit)) ≡ 16384) ⌝ }
+    requires { ⌜ Named (recipeAt w (now s)) (now at) (now fields) (now keys) (now index) × (Pointed (recipeAt w (now s)) (now t) × Cell (places (recipeAt w (now s))) 5 (ownOf (recipeAt w (now s))) (now t)) ⌝ }
+    ensures { λ _. ⌜ Linked (recipeAt w (now (s .entry))) (now (t .exit)) ⌝ }
 {
-    let mut i = 0;
-    while i < n {
-        let p = at[i] as usize;
-        out[p] = model_at(s, w, n, at, fields, keys, index, p, hold[p]);
-        i += 1;
+    let mut p = 0;
+    while p < s.len() {
+        name_target(s, w, at, fields, keys, index, t, p);
+        p += recipe::record_length(s[p], w);
     }
 }
 
-// Writes by place each mark's owner.
-pub fn link_owners(
+// Rows 4 and 5, by the index; where neither applies, what the records name.
+fn judge_names(
     s: &[u8],
     w: usize,
-    n: usize,
     at: &[u16],
     fields: &[u8],
     keys: &[u32],
     index: &[u16],
-    hold: &[u16; 16384],
-    out: &mut [u16; 16384],
-)
-    requires { ⌜ Named (record { width = w; bytes = now s }) (now at) (now fields) (now keys) (now index) n × (ByPlace (record { width = w; bytes = now s }) (holder (record { width = w; bytes = now s })) (now hold) × (length (now out) ≡ 16384)) ⌝ }
-    ensures { λ r. ⌜ ByPlace (record { width = w; bytes = now (s .entry) }) (ownerLink (record { width = w; bytes = now (s .entry) })) (now (out .exit)) ⌝ }
+    t: &mut [u16],
+) -> Refusal
+    requires { ⌜ Indexed (recipeAt w (now s)) (now at) (now fields) (now keys) (now index) × Numbered (recipeAt w (now s)) (now t) ⌝ }
+    ensures { λ r. ⌜ (r ≡ handed (judged (declaredRows (recipeAt w (now (s .entry)))))) × (r .number ≡ 0 → Linked (recipeAt w (now (s .entry))) (now (t .exit))) ⌝ }
 {
-    let mut i = 0;
-    while i < n {
-        let p = at[i] as usize;
-        out[p] = owner_at(s, w, n, at, fields, keys, index, p, hold[p]);
-        i += 1;
+    if let Found::At(p) = first_repeated(s, w, at, fields, keys, index) {
+        return names::refuse(4, p);
     }
+    if let Found::At(p) = link_records(s, w, at, fields, keys, index, t) {
+        return names::refuse(5, p);
+    }
+    name_targets(s, w, at, fields, keys, index, t);
+    names::refuse(0, 0)
 }
 
-// Writes by place each port's and mark's submodel.
-pub fn link_submodels(
-    s: &[u8],
-    w: usize,
-    n: usize,
-    at: &[u16],
-    fields: &[u8],
-    keys: &[u32],
-    index: &[u16],
-    hold: &[u16; 16384],
-    out: &mut [u16; 16384],
-)
-    requires { ⌜ Named (record { width = w; bytes = now s }) (now at) (now fields) (now keys) (now index) n × (ByPlace (record { width = w; bytes = now s }) (holder (record { width = w; bytes = now s })) (now hold) × (length (now out) ≡ 16384)) ⌝ }
-    ensures { λ r. ⌜ ByPlace (record { width = w; bytes = now (s .entry) }) (submodelLink (record { width = w; bytes = now (s .entry) })) (now (out .exit)) ⌝ }
+// Rows 4 and 5; where neither applies, the cells 3 to 5.
+pub fn resolve_names(s: &[u8], w: usize, t: &mut [u16]) -> Refusal
+    requires { ⌜ Numbered (recipeAt w (now s)) (now t) × (fault₃ (recipeAt w (now s)) ≡ none) ⌝ }
+    ensures { λ r. ⌜ (r ≡ handed (judged (declaredRows (recipeAt w (now (s .entry)))))) × ((r .number ≡ 0 → Linked (recipeAt w (now (s .entry))) (now (t .exit))) × (length (now (t .exit)) ≡ length (now (t .entry)))) ⌝ }
 {
-    let mut i = 0;
-    while i < n {
-        let p = at[i] as usize;
-        out[p] = submodel_at(s, w, n, at, fields, keys, index, p, hold[p]);
-        i += 1;
-    }
-}
-
-// Writes by place each element's parent.
-pub fn link_parents(
-    s: &[u8],
-    w: usize,
-    n: usize,
-    at: &[u16],
-    fields: &[u8],
-    keys: &[u32],
-    index: &[u16],
-    hold: &[u16; 16384],
-    out: &mut [u16; 16384],
-)
-    requires { ⌜ Named (record { width = w; bytes = now s }) (now at) (now fields) (now keys) (now index) n × (ByPlace (record { width = w; bytes = now s }) (holder (record { width = w; bytes = now s })) (now hold) × (length (now out) ≡ 16384)) ⌝ }
-    ensures { λ r. ⌜ ByPlace (record { width = w; bytes = now (s .entry) }) (parentLink (record { width = w; bytes = now (s .entry) })) (now (out .exit)) ⌝ }
-{
-    let mut i = 0;
-    while i < n {
-        let p = at[i] as usize;
-        out[p] = parent_at(s, w, n, at, fields, keys, index, p, hold[p]);
-        i += 1;
-    }
-}
-
-// Writes by place each element's reference.
-pub fn link_references(
-    s: &[u8],
-    w: usize,
-    n: usize,
-    at: &[u16],
-    fields: &[u8],
-    keys: &[u32],
-    index: &[u16],
-    hold: &[u16; 16384],
-    out: &mut [u16; 16384],
-)
-    requires { ⌜ Named (record { width = w; bytes = now s }) (now at) (now fields) (now keys) (now index) n × (ByPlace (record { width = w; bytes = now s }) (holder (record { width = w; bytes = now s })) (now hold) × (length (now out) ≡ 16384)) ⌝ }
-    ensures { λ r. ⌜ ByPlace (record { width = w; bytes = now (s .entry) }) (referenceLink (record { width = w; bytes = now (s .entry) })) (now (out .exit)) ⌝ }
-{
-    let mut i = 0;
-    while i < n {
-        let p = at[i] as usize;
-        out[p] = reference_at(s, w, n, at, fields, keys, index, p, hold[p]);
-        i += 1;
-    }
-}
-
-// The record that the port or mark at p names.
-fn target_of(
-    s: &[u8],
-    w: usize,
-    n: usize,
-    at: &[u16],
-    fields: &[u8],
-    keys: &[u32],
-    index: &[u16],
-    model: &[u16; 16384],
-    sub: &[u16; 16384],
-    p: usize,
-    d: u16,
-) -> Found
-    requires { ⌜ Recorded (record { width = w; bytes = now s }) (now at) (now fields) (now keys) (now index) n p d × (Linked (record { width = w; bytes = now s }) (now model) (now sub) × (pointerKind (getD (now s) p 0) ≡ true)) ⌝ }
-    ensures { λ r. ⌜ r ≡ foundOf (namedBy (record { width = w; bytes = now (s .entry) }) p) ⌝ }
-{
-    let o = recipe::submodel_offset(s[p], w);
-    let f = field(s, p + 1 + (o + w + 1), w);
-    if names::is_blank(field(s, p + 1 + o, w)) {
-        return find_declared(s, w, n, at, fields, keys, index, 2, d, f);
-    }
-    let m = model[sub[p] as usize];
-    if s[p + 1 + (o + w)] == 0 {
-        return find_declared(s, w, n, at, fields, keys, index, 2, m, f);
-    }
-    find_port(s, w, n, at, fields, keys, index, m, f)
-}
-
-// The record that a port or mark names, and 0 of another record.
-fn next_at(
-    s: &[u8],
-    w: usize,
-    n: usize,
-    at: &[u16],
-    fields: &[u8],
-    keys: &[u32],
-    index: &[u16],
-    model: &[u16; 16384],
-    sub: &[u16; 16384],
-    p: usize,
-    d: u16,
-) -> u16
-    requires { ⌜ Recorded (record { width = w; bytes = now s }) (now at) (now fields) (now keys) (now index) n p d × Linked (record { width = w; bytes = now s }) (now model) (now sub) ⌝ }
-    ensures { λ r. ⌜ r ≡ nextLink (record { width = w; bytes = now (s .entry) }) p ⌝ }
-{
-    let k = s[p];
-    if !recipe::is_pointer(k) {
-        return 0;
-    }
-    place_of(target_of(s, w, n, at, fields, keys, index, model, sub, p, d))
-}
-
-// Writes by place the record that each port and mark names.
-pub fn link_targets(
-    s: &[u8],
-    w: usize,
-    n: usize,
-    at: &[u16],
-    fields: &[u8],
-    keys: &[u32],
-    index: &[u16],
-    hold: &[u16; 16384],
-    model: &[u16; 16384],
-    sub: &[u16; 16384],
-    out: &mut [u16; 16384],
-)
-    requires { ⌜ Named (record { width = w; bytes = now s }) (now at) (now fields) (now keys) (now index) n × (ByPlace (record { width = w; bytes = now s }) (holder (record { width = w; bytes = now s })) (now hold) × (Linked (record { width = w; bytes = now s }) (now model) (now sub) × (length (now out) ≡ 16384))) ⌝ }
-    ensures { λ r. ⌜ ByPlace (record { width = w; bytes = now (s .entry) }) (nextLink (record { width = w; bytes = now (s .entry) })) (now (out .exit)) ⌝ }
-{
-    let mut i = 0;
-    while i < n {
-        let p = at[i] as usize;
-        out[p] = next_at(s, w, n, at, fields, keys, index, model, sub, p, hold[p]);
-        i += 1;
-    }
+    let mut at = [0u16; MOST_RECORDS];
+    let mut fields = [0u8; MOST_BYTES];
+    let mut keys = [0u32; MOST_RECORDS];
+    let mut index = [0u16; MOST_RECORDS];
+    let n = index_names(s, w, t, &mut at, &mut fields, &mut keys, &mut index);
+    judge_names(s, w, &at[..n], &fields, &keys, &index, t)
 }

@@ -1,7 +1,8 @@
--- A chain followed by the table of steps: where it is after some of its five steps.
+-- A chain followed by the column of steps: where it is after some of its five steps.
 -- Assumes nothing.
-use Prim.Native.Nat.{_+_, _-_, _<_, _≤_, suc, zero, ℕ}
-use lib.ListN.{getD}
+use Prim.Native.Nat.{_*_, _+_, _-_, _<_, _≤_, suc, zero, ℕ}
+use borrow.Author.Tests.{eq-eqb, ne-eqb}
+use lib.ListN.{getD, length}
 use mathlib.Core.List.{List}
 use mathlib.Core.Option.{none}
 use mathlib.Core.Path.{_∙_, _≡_, ap, refl, sym}
@@ -14,69 +15,64 @@ use Rattle.recipe.specs.Records.{Recipe}
 use Rattle.tree.specs.Faults.{fault₇}
 use Rattle.tree.specs.Numbers.{number}
 use Rattle.tree.specs.Tree.{Node, treeElements}
-use Rattle.tree.proofs.Numbering.{number-few}
+use Rattle.marks.specs.Composed.{Nexts}
 use Rattle.marks.specs.Marks.{chainEnd, chainWithin, step}
-use Rattle.marks.specs.Steps.{EndsAt, Numbers, StepsAre, stepOf}
+use Rattle.marks.specs.Steps.{Stepping, followed, stepOf}
+use Rattle.marks.proofs.Elements.{element-at, number-low}
 use Rattle.marks.proofs.Marks.{step-in}
 
--- n steps are left from the element of number z, which the chain from v has reached
-pub record Follow (s : Recipe) (v : Node) (n z : ℕ) : Type 0 where
-  pub it : Node
-  pub tree : In it (treeElements s)
-  pub num : number s it ≡ z
-  pub rest : chainEnd s v ≡ chainWithin n s it
+-- ---- what the code needs of each step
+pub follow-end : (el : List ℕ) (n : ℕ) {z : ℕ} → getD el (5 * z + 3) 0 ≡ 0 → followed el n z ≡ z
+unfolding followed
+follow-end el zero h = refl
+follow-end el (suc n) {z} h = rw (eq-eqb (getD el (5 * z + 3) 0) 0 h)
 
--- from each element of number e
-abbrev pub Following : Recipe → ℕ → ℕ → ℕ → Type 0
-Following s e n z = (v : Node) → In v (treeElements s) → number s v ≡ e → Follow s v n z
+pub follow-more : (el : List ℕ) (n z : ℕ) {y : ℕ} → 0 < n → y ≡ getD el (5 * z + 3) 0 → (y ≡ 0 → ⊥) → followed el n z ≡ followed el (n - 1) (y - 1)
+unfolding followed
+follow-more el zero z l e h = absurd (omega arith)
+follow-more el (suc n) z l e h = rw (e, sub-one (suc n), ne-eqb (getD el (5 * z + 3) 0) 0 (λ k. h (e ∙ k)))
 
-pub follow-start : (s : Recipe) (e : ℕ) → Following s e 5 e
-unfolding chainEnd
-follow-start s e v i q = record { it = v; tree = i; num = q; rest = refl }
+pub follow-last : (el : List ℕ) (n : ℕ) {z : ℕ} → n ≤ 0 → followed el n z ≡ z
+unfolding followed
+follow-last el zero l = refl
+follow-last el (suc n) l = absurd (omega arith)
 
-module _ (s : Recipe) (h₅ : fault₅ s ≡ none) (h₇ : fault₇ s ≡ none) (go : List ℕ) (G : StepsAre s go) where
-  -- no step: it is the end
-  ends-here : (v : Node) (n z : ℕ) → Follow s v n z → getD go z 0 ≡ 0 → z ≡ number s (chainEnd s v)
-  unfolding stepOf chainWithin
-  ends-here v zero z f e = sym (f .num) ∙ sym (ap (number s) (f .rest))
-  ends-here v (suc n) z f e =
-      by-option (step s (f .it))
-      (λ p. sym (f .num) ∙ sym (ap (number s) (f .rest ∙ rw (p, chainWithin))))
+pub stepping-on : {el : List ℕ} {z y : ℕ} → Stepping el z → y ≡ getD el (5 * z + 3) 0 → (y ≡ 0 → ⊥) → Stepping el (y - 1)
+stepping-on {el} {z} {y} S e h = record { elems = S .elems; low = omega (arith, S .within z (S .low)); room = S .room; within = S .within }
+
+-- ---- it is the chain
+module _ (s : Recipe) (h₅ : fault₅ s ≡ none) (h₇ : fault₇ s ≡ none) (el : List ℕ) (G : Nexts s el) where
+  chain-law : (n : ℕ) (x : Node) → In x (treeElements s) → followed el n (number s x) ≡ number s (chainWithin n s x)
+  unfolding followed chainWithin stepOf
+  chain-law zero x i = refl
+  chain-law (suc n) x i =
+      by-option (step s x)
+      (λ p.
+      let g : getD el (5 * number s x + 3) 0 ≡ 0 = G x i ∙ rw (p, stepOf) in
+      let k : chainWithin (suc n) s x ≡ x = rw (p, chainWithin) in
+      follow-end el (suc n) g ∙ ap (number s) (sym k))
       (λ y p.
-      let g : getD go (number s (f .it)) 0 ≡ number s y + 1 = G (f .it) (f .tree) ∙ rw (p, stepOf) in
-      let k : getD go (number s (f .it)) 0 ≡ 0 = ap (λ (j : ℕ). getD go j 0) (f .num) ∙ e in
-      absurd (omega arith))
+      let g : getD el (5 * number s x + 3) 0 ≡ number s y + 1 = G x i ∙ rw (p, stepOf) in
+      let k : chainWithin (suc n) s x ≡ chainWithin n s y = rw (p, chainWithin) in
+      follow-more el (suc n) (number s x) (omega arith) refl (λ z. omega arith)
+      ∙ rw (sub-one (suc n)) (ap (followed el n) (omega arith)) ∙ chain-law n y (step-in s h₅ h₇ x y p) ∙ ap (number s) (sym k))
 
-  -- a step: one fewer is left
-  goes-on : (v : Node) (n z : ℕ) → Follow s v (suc n) z → (getD go z 0 ≡ 0 → ⊥) → Follow s v n (getD go z 0 - 1)
-  unfolding stepOf chainWithin
-  goes-on v n z f e =
-      by-option (step s (f .it))
-      (λ p. absurd (e (ap (λ (j : ℕ). getD go j 0) (sym (f .num)) ∙ G (f .it) (f .tree) ∙ rw (p, stepOf))))
-      (λ y p.
-      let g : getD go (number s (f .it)) 0 ≡ number s y + 1 = G (f .it) (f .tree) ∙ rw (p, stepOf) in
-      let k : getD go (number s (f .it)) 0 ≡ getD go z 0 = ap (λ (j : ℕ). getD go j 0) (f .num) in
-      record { it = y; tree = step-in s h₅ h₇ (f .it) y p; num = omega arith; rest = f .rest ∙ rw (p, chainWithin) })
+  pub end-law : (x : Node) → In x (treeElements s) → followed el 5 (number s x) ≡ number s (chainEnd s x)
+  unfolding chainEnd
+  end-law x i = chain-law 5 x i
 
-  -- what the code needs of them
-  pub follow-end : {e n z : ℕ} → Following s e n z → getD go z 0 ≡ 0 → EndsAt s e z
-  follow-end {e} {n} {z} f h v i q = ends-here v n z (f v i q) h
-
-  pub follow-more : {e n z : ℕ} → Following s e n z → 0 < n → (getD go z 0 ≡ 0 → ⊥) → Following s e (n - 1) (getD go z 0 - 1)
-  follow-more {e} {n} {z} f h k v i q = more n (f v i q) h
-    where
-      more : (m : ℕ) → Follow s v m z → 0 < m → Follow s v (m - 1) (getD go z 0 - 1)
-      more zero g l = absurd (omega arith)
-      more (suc m) g l = rw (sub-one (suc m)) (goes-on v m z g k)
-
-  pub follow-low : {e n z : ℕ} → Following s e n z → Numbers s e → z < 1024
-  follow-low {e} {n} {z} f x = let g = f (x .0) (x .1) (x .2) in omega (arith, number-few s h₇ (g .it) (g .tree), g .num)
-
--- after five steps
-pub follow-last : (s : Recipe) {e n z : ℕ} → Following s e n z → n ≤ 0 → EndsAt s e z
-unfolding chainWithin
-follow-last s {e} {n} {z} f h v i q = last n (f v i q) h
-  where
-    last : (m : ℕ) → Follow s v m z → m ≤ 0 → z ≡ number s (chainEnd s v)
-    last zero g l = sym (g .num) ∙ sym (ap (number s) (g .rest))
-    last (suc m) g l = absurd (omega arith)
+  -- what `chain_end` requires
+  pub stepping : (x : Node) → In x (treeElements s) → 5 * length (treeElements s) ≤ length el → Stepping el (number s x)
+  unfolding stepOf
+  stepping x i l = record {
+    elems = length (treeElements s);
+    low = number-low s h₇ x i;
+    room = l;
+    within = λ z h.
+        let v = element-at s h₇ z h in
+        by-option (step s (v .0))
+        (λ p. let g : getD el (5 * number s (v .0) + 3) 0 ≡ 0 = G (v .0) (v .1) ∙ rw (p, stepOf) in omega (arith, rw (v .2) at g))
+        (λ y p.
+        let g : getD el (5 * number s (v .0) + 3) 0 ≡ number s y + 1 = G (v .0) (v .1) ∙ rw (p, stepOf) in
+        omega (arith, rw (v .2) at g, number-low s h₇ y (step-in s h₅ h₇ (v .0) y p)));
+  }

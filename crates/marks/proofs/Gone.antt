@@ -1,34 +1,34 @@
 -- What is gone, by the cells: the owner of a replaced-by, the target of a deletion or replacement, and their children.
 -- Assumes nothing.
 use Prim.Native.Nat.{_*_, _+_, _-_, _<_, _≤_, ℕ}
-use borrow.Author.Tests.{eq-eqb, eqb-true, lt-ltb, ne-eqb}
-use lib.Dec.{eqb, ltb}
+use borrow.Author.Tests.{eq-eqb, eqb-true, ne-eqb}
+use lib.Dec.{eqb}
 use lib.ListN.{getD, length}
-use mathlib.Core.Bool.{Bool, _&&_, _||_, and-or-distrib-left, false, or-false, true}
+use mathlib.Core.Bool.{Bool, _&&_, _||_, cond, false, or-false, true}
 use mathlib.Core.List.{List}
 use mathlib.Core.Logic.{inr, ⊎-elim}
-use mathlib.Core.Option.{Option, Option·getD, Option·map, none, some}
-use mathlib.Core.Path.{_∙_, _≡_, ap, sym}
+use mathlib.Core.Option.{Option·getD, none, some}
+use mathlib.Core.Path.{_∙_, _≡_, ap, refl, sym}
 use native.Mathlib.Omega.{arith}
 use Rattle.names.specs.Lists.{In, among, any}
 use Rattle.names.proofs.Lists.{any-in, any-cong, any-or, any-some, among-one, among-two}
-use Rattle.names.proofs.Tests.{and-left, and-right, both, both-ways, by-option, not-both, or-cases, or-left}
-use Rattle.recipe.specs.Definitions.{elementIn, holder}
+use Rattle.names.proofs.Tests.{and-left, and-right, both, both-ways, by-cases, not-both, or-cases, or-left}
+use Rattle.recipe.specs.Definitions.{elementIn}
 use Rattle.recipe.specs.Reading.{fault₅}
-use Rattle.recipe.specs.Records.{Recipe, isDeletion, isElement, isMark, isReplacedBy, isReplacement, kind, parentField}
-use Rattle.recipe.proofs.Definitions.{Held, element-in, in-elements}
-use Rattle.recipe.proofs.Reading.{place-low}
+use Rattle.recipe.specs.Records.{Recipe, isDeletion, isMark, isReplacedBy, isReplacement, kind, parentField}
 use Rattle.tree.specs.Faults.{fault₇, fault₈}
-use Rattle.tree.specs.Numbers.{number, order}
-use Rattle.tree.specs.Tree.{Node, definitionAt, node, parentOf, sameNode, treeElements}
+use Rattle.tree.specs.Numbers.{number}
+use Rattle.tree.specs.Tree.{Node, node, parentOf, sameNode, treeElements}
 use Rattle.tree.proofs.Instances.{depth}
-use Rattle.tree.proofs.Nodes.{in-tree, nodes-in, parent-in}
-use Rattle.tree.proofs.Numbering.{number-few, number-inj}
-use Rattle.tree.proofs.Resolving.{not-zero}
-use Rattle.marks.specs.Cells.{Cells, aimNumber, goneCell, isSet, markCell, ownerCell, portCell, stamps}
-use Rattle.marks.specs.Gone.{Element, GoneAt, Marked}
+use Rattle.tree.proofs.Nodes.{nodes-in, parent-in}
+use Rattle.tree.proofs.Numbering.{number-few}
+use Rattle.marks.specs.Cells.{AllStamped, Known, aimNumber, goneCell, isSet, markCell, ownerCell, portCell, stamps}
+use Rattle.marks.specs.Composed.{Gones}
+use Rattle.marks.specs.Gone.{Element, GoneAt}
 use Rattle.marks.specs.Marks.{aimsAt, from, isGone, isMarkedGone, owner, ownsBy, removes, treeMarks, treePointers}
-use Rattle.marks.proofs.Marks.{aim-in, aim-some, is-mark, mark-pointer, owner-in, pointer-place, pointer-placed}
+use Rattle.marks.proofs.Elements.{of-element, element-held, element-room, names-none, names-some, sibling-number}
+use Rattle.marks.proofs.Marks.{aim-in, aim-some, is-mark, mark-pointer, owner-in, pointer-placed}
+use Rattle.marks.proofs.Pass.{stamped-any}
 use Rattle.marks.proofs.Relations.{aimed-is, node-number}
 use Rattle.marks.proofs.Stamps.{Sort, sorts, stamps-by, stamps-mark, stamps-port}
 
@@ -140,114 +140,81 @@ module _ (s : Recipe) (h₅ : fault₅ s ≡ none) (h₇ : fault₇ s ≡ none) 
     sets-law = ⊎-elim port-case (⊎-elim by-case mark-case) (sorts s (q .place) (pointer-placed s q i .passes))
 
   -- the two cells say whether an element is marked as gone
-  pub marked-law : (t : List ℕ) → Cells s (length (s .bytes)) t → (x : Node) → In x (treeElements s)
+  pub marked-law : (t : List ℕ) → AllStamped s t → (x : Node) → In x (treeElements s)
       → isSet t (ownerCell (number s x)) || isSet t (goneCell (number s x)) ≡ isMarkedGone s x
   unfolding isMarkedGone
-  marked-law t C x j =
-      let L = length (s .bytes) in
-      let A : Node → Bool = λ q. ltb (q .place) L && among (ownerCell (number s x)) (stamps s q) in
-      let B : Node → Bool = λ q. ltb (q .place) L && among (goneCell (number s x)) (stamps s q) in
+  marked-law t S x j =
+      let A : Node → Bool = λ q. among (ownerCell (number s x)) (stamps s q) in
+      let B : Node → Bool = λ q. among (goneCell (number s x)) (stamps s q) in
+      let C : (c : ℕ) → isSet t c ≡ any (λ q. among c (stamps s q)) (treePointers s) = stamped-any s t (λ q. Unit {0}) (λ q. true) (λ q d. refl) (λ q d. tt) S in
       ap (λ (b : Bool). b || isSet t (goneCell (number s x))) (C (ownerCell (number s x)))
       ∙ ap (λ (b : Bool). any A (treePointers s) || b) (C (goneCell (number s x)))
       ∙ sym (any-or A B (treePointers s))
-      ∙ any-cong (λ q. A q || B q) (λ q. isMark s (q .place) && (removes s x q || ownsBy s x q)) (treePointers s)
-      (λ q i.
-      sym (and-or-distrib-left (ltb (q .place) L) (among (ownerCell (number s x)) (stamps s q)) (among (goneCell (number s x)) (stamps s q)))
-      ∙ ap (λ (b : Bool). b && (among (ownerCell (number s x)) (stamps s q) || among (goneCell (number s x)) (stamps s q))) (lt-ltb (q .place) L (place-low s (q .place) (pointer-place s q i)))
-      ∙ sets-law x j q i)
+      ∙ any-cong (λ q. A q || B q) (λ q. isMark s (q .place) && (removes s x q || ownsBy s x q)) (treePointers s) (λ q i. sets-law x j q i)
       ∙ marks-any (λ r. removes s x r || ownsBy s x r)
 
 -- ---- an element and its parent
-module _ (s : Recipe) (cells ord par : List ℕ) (M : Marked s cells ord par) (e q : ℕ) (E : Element s e q) where
+module _ {s : Recipe} {t cells : List ℕ} (K : Known s t) (S : AllStamped s cells) {e q : ℕ} (E : Element s e q) where
   abbrev x : Node
   x = E .it
 
-  abbrev d : ℕ
-  d = definitionAt s (x .path)
+  abbrev marked : ℕ → Bool
+  marked n = isSet cells (ownerCell n) || isSet cells (goneCell n)
 
-  held : Held s (isElement s) d (x .place)
-  held = in-elements s d (x .place) (in-tree s x (E .tree) .1)
+  marked-is : (y : Node) → In y (treeElements s) → marked (number s y) ≡ isMarkedGone s y
+  marked-is = marked-law s (K .aimed .measured .linked .row₅) (K .row₇) (K .aimed .row₈) cells S
 
-  pub number-low : e < 1024
-  number-low = omega (arith, number-few s (M .small) x (E .tree), E .num)
+  pub gone-low : e < 1024
+  gone-low = omega (arith, number-few s (K .row₇) x (E .tree), E .num)
 
-  pub element-low : q < 16384
-  element-low = omega (arith, place-low s (x .place) (held .placed), E .at, M .short)
+  pub gone-room : q + 13 ≤ length t
+  gone-room = omega (arith, element-room K x (E .tree), E .at)
 
-  -- marked as gone itself
-  pub marked-is : isSet cells (ownerCell e) || isSet cells (goneCell e) ≡ isMarkedGone s x
-  marked-is = rw (E .num) at (marked-law s (M .declared) (M .small) (M .aims) cells (M .set) x (E .tree))
+  -- what the code answers
+  module _ {b : Bool} (h : b ≡ marked e) where
+    own : isMarkedGone s x ≡ b
+    own = sym (marked-is x (E .tree)) ∙ ap marked (E .num) ∙ sym h
 
-  order-is : getD ord q 0 ≡ order s d (x .place)
-  order-is =
-      ap (λ (z : ℕ). getD ord z 0) (sym (E .at)) ∙ M .orders (x .place) (held .placed) (held .passes) ∙ ap (λ (z : ℕ). order s z (x .place)) (held .held)
+    pub gone-own : b ≡ true → GoneAt s e true
+    unfolding isGone
+    gone-own z = of-element (K .row₇) E (isGone s) (sym (or-left (isMarkedGone s x) _ (own ∙ z)))
 
-  parent-is : getD par q 0 ≡ Option·getD (elementIn s (x .place) (parentField s (x .place))) 0
-  parent-is = ap (λ (z : ℕ). getD par z 0) (sym (E .at)) ∙ M .parents (x .place) (held .placed) (held .passes)
+    module _ {m : ℕ} (r : m ≡ getD t (q + 3) 0) where
+      parent-is : m ≡ Option·getD (elementIn s (x .place) (parentField s (x .place))) 0
+      parent-is =
+          let i = element-held s x (E .tree) in
+          r ∙ ap (λ (z : ℕ). getD t (z + 3) 0) (sym (E .at)) ∙ K .aimed .measured .linked .parents (x .place) (i .placed) (i .passes)
 
-  -- no parent
-  no-parent : getD par q 0 ≡ 0 → parentOf s x ≡ none
-  unfolding parentOf
-  no-parent z =
-      by-option (elementIn s (x .place) (parentField s (x .place)))
-      (λ n. ap (Option·map (node (x .path))) n)
-      (λ m n.
-      let i = element-in s (x .place) (parentField s (x .place)) m n .2 in
-      let r = in-elements s (holder s (x .place)) m i .inside in
-      absurd (not-zero s (holder s (x .place)) m r (sym (parent-is ∙ ap (λ (o : Option ℕ). Option·getD o 0) n) ∙ z)))
+      pub gone-none : b ≡ false → m ≡ 0 → GoneAt s e false
+      unfolding isGone parentOf
+      gone-none z n = of-element (K .row₇) E (isGone s) (rw (own ∙ z, names-none s x (parentField s (x .place)) parent-is n))
 
-  -- a parent
-  abbrev y : Node
-  y = node (x .path) (getD par q 0)
+      module _ (n : m ≡ 0 → ⊥) where
+        a-parent : parentOf s x ≡ some (node (x .path) m)
+        unfolding parentOf
+        a-parent = names-some s x (parentField s (x .place)) parent-is n
 
-  a-parent : (getD par q 0 ≡ 0 → ⊥) → parentOf s x ≡ some y
-  unfolding parentOf
-  a-parent z =
-      by-option (elementIn s (x .place) (parentField s (x .place)))
-      (λ n. absurd (z (parent-is ∙ ap (λ (o : Option ℕ). Option·getD o 0) n)))
-      (λ m n. ap (Option·map (node (x .path))) (n ∙ ap some (sym (parent-is ∙ ap (λ (o : Option ℕ). Option·getD o 0) n))))
+        pub parent-tree : In (node (x .path) m) (treeElements s)
+        parent-tree = parent-in s x (node (x .path) m) (E .tree) a-parent
 
-  module _ (z : getD par q 0 ≡ 0 → ⊥) where
-    y-tree : In y (treeElements s)
-    y-tree = parent-in s x y (E .tree) (a-parent z)
+        module _ {a c : ℕ} (u : a ≡ getD t (q + 1) 0) (v : c ≡ getD t (m + 1) 0) where
+          pub gone-parent : {k : Bool} → b ≡ false → k ≡ marked (e - a + c) → GoneAt s e k
+          unfolding isGone
+          gone-parent z g = of-element (K .row₇) E (isGone s) (rw (own ∙ z, a-parent) (g ∙ ap marked (sibling-number K E m parent-tree u v .1) ∙ marked-is (node (x .path) m) parent-tree))
 
-    y-held : Held s (isElement s) d (getD par q 0)
-    unfolding node
-    y-held = in-elements s d (getD par q 0) (in-tree s y y-tree .1)
+-- what column 2 has
+module _ (s : Recipe) {e : ℕ} {b : Bool} (g : GoneAt s e b) (x : Node) (i : In x (treeElements s)) (n : number s x ≡ e) where
+  pub gone-yes : b ≡ true → _≡_ {A = ℕ} 1 (cond (isGone s x) 1 0)
+  gone-yes z = rw (sym (g x i n) ∙ z)
 
-    pub parent-low : getD par q 0 < 16384
-    parent-low = omega (arith, place-low s (getD par q 0) (y-held .placed), M .short)
+  pub gone-no : b ≡ false → _≡_ {A = ℕ} 0 (cond (isGone s x) 1 0)
+  gone-no z = rw (sym (g x i n) ∙ z)
 
-    parent-number : number s y ≡ e - getD ord q 0 + getD ord (getD par q 0) 0
-    unfolding number node
-    parent-number =
-        let o : getD ord (getD par q 0) 0 ≡ order s d (getD par q 0) =
-        M .orders (getD par q 0) (y-held .placed) (y-held .passes) ∙ ap (λ (k : ℕ). order s k (getD par q 0)) (y-held .held) in
-        omega (arith, E .num, order-is, o)
-
-    pub order-fits : getD ord q 0 ≤ e
-    unfolding number
-    order-fits = omega (arith, E .num, order-is)
-
-    pub parent-few : e - getD ord q 0 + getD ord (getD par q 0) 0 < 1024
-    parent-few = omega (arith, parent-number, number-few s (M .small) y y-tree)
-
-    pub parent-marked : isSet cells (ownerCell (e - getD ord q 0 + getD ord (getD par q 0) 0)) || isSet cells (goneCell (e - getD ord q 0 + getD ord (getD par q 0) 0)) ≡ isMarkedGone s y
-    parent-marked = rw parent-number at (marked-law s (M .declared) (M .small) (M .aims) cells (M .set) y y-tree)
-
-  -- ---- what the code answers
-  same-element : {b : Bool} → b ≡ isGone s x → GoneAt s e b
-  same-element h v i n = h ∙ ap (isGone s) (number-inj s (M .small) x v (E .tree) i (E .num ∙ sym n))
-
-  pub gone-own : {b : Bool} → b ≡ isSet cells (ownerCell e) || isSet cells (goneCell e) → b ≡ true → GoneAt s e true
-  unfolding isGone
-  gone-own h t = same-element (sym (or-left (isMarkedGone s x) _ (sym marked-is ∙ sym h ∙ t)))
-
-  pub gone-none : {b : Bool} → b ≡ isSet cells (ownerCell e) || isSet cells (goneCell e) → b ≡ false → getD par q 0 ≡ 0 → GoneAt s e false
-  unfolding isGone
-  gone-none h t z = same-element (rw (sym marked-is ∙ sym h ∙ t, no-parent z))
-
-  pub gone-parent : {b k : Bool} → b ≡ isSet cells (ownerCell e) || isSet cells (goneCell e) → b ≡ false → (z : getD par q 0 ≡ 0 → ⊥)
-      → k ≡ isSet cells (ownerCell (e - getD ord q 0 + getD ord (getD par q 0) 0)) || isSet cells (goneCell (e - getD ord q 0 + getD ord (getD par q 0) 0)) → GoneAt s e k
-  unfolding isGone
-  gone-parent h t z k = same-element (rw (sym marked-is ∙ sym h ∙ t, a-parent z) (k ∙ parent-marked z))
+-- and what it says
+pub gone-told : (s : Recipe) (el : List ℕ) {e c : ℕ} → Gones s el → c ≡ getD el (5 * e + 2) 0 → (x : Node) → In x (treeElements s) → number s x ≡ e
+    → ((c ≡ 0 → ⊥) → isGone s x ≡ true) × (c ≡ 0 → isGone s x ≡ false)
+gone-told s el {e} {c} G r x i n =
+    let q : c ≡ cond (isGone s x) 1 0 = r ∙ ap (λ (k : ℕ). getD el (5 * k + 2) 0) (sym n) ∙ G x i in (
+      λ z. by-cases (isGone s x) (λ h. h) (λ h. absurd (z (q ∙ rw h))),
+      λ z. by-cases (isGone s x) (λ h. let k : c ≡ 1 = q ∙ rw h in absurd (omega arith)) (λ h. h),
+    )

@@ -1,163 +1,138 @@
--- The elements of the tree listed by their numbers, record by record, and a record's instances one by one.
+-- The elements of the tree listed by their numbers, record by record, and a record's instances along their thread.
 -- Assumes nothing.
-use Prim.Native.Nat.{_*_, _+_, _<_, _≤_, ℕ}
+use Prim.Native.Nat.{_*_, _+_, _-_, _<_, _≤_, ℕ}
 use borrow.Author.Tests.{eqb-false, eqb-true}
 use lib.Dec.{eqb}
 use lib.ListN.{getD, length, length-set, set}
 use lib.Seq.{getD-set-other, getD-set-same}
-use mathlib.Core.Bool.{false, true}
-use mathlib.Core.List.{List, []}
-use mathlib.Core.Logic.{inl, inr, ⊎-elim}
+use mathlib.Core.Bool.{true, false}
+use mathlib.Core.List.{List}
+use mathlib.Core.Logic.{_⊎_, ⊎-elim}
 use mathlib.Core.Path.{_∙_, _≡_, ap, sym}
 use native.Mathlib.Omega.{arith}
 use Rattle.names.specs.Lists.{In}
-use Rattle.names.proofs.Lists.{getD-in, in-getD}
-use Rattle.names.proofs.Tests.{by-cases, not-both}
+use Rattle.names.proofs.Tests.{by-cases}
 use Rattle.recipe.specs.Definitions.{holder}
 use Rattle.recipe.specs.Records.{Recipe, isElement, isModel, kind, next, places}
-use Rattle.recipe.proofs.Definitions.{Held, in-elements}
-use Rattle.recipe.proofs.Reading.{place-low, places-between}
-use Rattle.tree.specs.Numbers.{number, order}
-use Rattle.tree.specs.Tree.{Node, definitionAt, instances, node, treeElements}
-use Rattle.tree.proofs.ByRecord.{node-in}
-use Rattle.tree.proofs.Nodes.{element-holder, in-tree, node-eq}
+use Rattle.shadow.specs.Columns.{order}
+use Rattle.tree.specs.Numbers.{number}
+use Rattle.tree.specs.Tree.{Node, instances, node, nodes, treeElements}
 use Rattle.tree.proofs.Numbering.{number-few, number-inj}
 use Rattle.marks.specs.Cells.{Ready}
-use Rattle.marks.specs.Elements.{Elements}
-use Rattle.marks.specs.Listing.{Listable, Entry, Listed}
-use Rattle.marks.proofs.StepTable.{Done}
+use Rattle.marks.specs.Composed.{ElementRows}
+use Rattle.marks.specs.Listing.{Entry, Listed}
+use Rattle.marks.proofs.Threads.{Along, Done, Holds, begin, finish, path, this-in, turn}
 
--- what the passes over marks and ports require is enough
-pub ready-listable : {s : Recipe} {hold rel own ord inst : List ℕ} {n : ℕ} → Ready s hold rel own ord inst n → Listable s hold ord inst n
-ready-listable R = record {
-  narrow = R .narrow;
-  short = R .short;
-  whole = R .whole;
-  small = R .small;
-  holds = R .links .holds;
-  orders = R .links .orders;
-  tree = R .tree;
-}
+-- the row of the element of number n, and the others, after `put_element`
+abbrev pub entered : List ℕ → ℕ → ℕ → ℕ → List ℕ
+entered el n p i = set (set (set el (5 * n + 0) p) (5 * n + 1) i) (5 * n + 3) 0
+
+pub entered-length : (el : List ℕ) (n p i : ℕ) → length (entered el n p i) ≡ length el
+entered-length el n p i = simp length-set
+
+module _ (el : List ℕ) (n p i : ℕ) (room : 5 * n + 4 < length el) where
+  entered-record : getD (entered el n p i) (5 * n + 0) 0 ≡ p
+  entered-record =
+      getD-set-other (set (set el (5 * n + 0) p) (5 * n + 1) i) (5 * n + 3) (5 * n + 0) 0 0 (λ z. omega arith)
+      ∙ getD-set-other (set el (5 * n + 0) p) (5 * n + 1) (5 * n + 0) i 0 (λ z. omega arith)
+      ∙ getD-set-same el (5 * n + 0) p 0 (omega arith)
+
+  entered-instance : getD (entered el n p i) (5 * n + 1) 0 ≡ i
+  entered-instance =
+      getD-set-other (set (set el (5 * n + 0) p) (5 * n + 1) i) (5 * n + 3) (5 * n + 1) 0 0 (λ z. omega arith)
+      ∙ getD-set-same (set el (5 * n + 0) p) (5 * n + 1) i 0 (omega (arith, length-set el (5 * n + 0) p))
+
+  entered-step : getD (entered el n p i) (5 * n + 3) 0 ≡ 0
+  entered-step =
+      getD-set-same (set (set el (5 * n + 0) p) (5 * n + 1) i) (5 * n + 3) 0 0
+      (omega (arith, length-set (set el (5 * n + 0) p) (5 * n + 1) i, length-set el (5 * n + 0) p))
+
+  entered-other : (m j : ℕ) → j < 5 → (m ≡ n → ⊥) → getD (entered el n p i) (5 * m + j) 0 ≡ getD el (5 * m + j) 0
+  entered-other m j l h =
+      getD-set-other (set (set el (5 * n + 0) p) (5 * n + 1) i) (5 * n + 3) (5 * m + j) 0 0 (λ z. h (row 3 (omega arith) z))
+      ∙ getD-set-other (set el (5 * n + 0) p) (5 * n + 1) (5 * m + j) i 0 (λ z. h (row 1 (omega arith) z))
+      ∙ getD-set-other el (5 * n + 0) (5 * m + j) p 0 (λ z. h (row 0 (omega arith) z))
+    where
+      row : (k : ℕ) → k < 5 → 5 * m + j ≡ 5 * n + k → m ≡ n
+      row k a z = omega arith
 
 module _ (s : Recipe) where
-  pub element-place : (x : Node) → In x (treeElements s) → Held s (isElement s) (definitionAt s (x .path)) (x .place)
-  element-place x i = in-elements s (definitionAt s (x .path)) (x .place) (in-tree s x i .1)
-
-  pub element-kind : (p : ℕ) → isElement s p ≡ true → kind s p ≡ 2
+  element-kind : (p : ℕ) → isElement s p ≡ true → kind s p ≡ 2
   unfolding isElement
   element-kind p e = eqb-true (kind s p) 2 e
 
-  pub not-model : (p : ℕ) → isElement s p ≡ true → isModel s p ≡ false
+  not-model : (p : ℕ) → isElement s p ≡ true → isModel s p ≡ false
   unfolding isModel
   not-model p e = rw (element-kind p e)
 
+  pub listed-same : (el : List ℕ) (D E : Node → Type 0) → ((q : Node) → In q (nodes s (isElement s)) → E q → D q) → ((q : Node) → In q (nodes s (isElement s)) → D q → E q)
+      → Listed s D el → Listed s E el
+  unfolding treeElements
+  listed-same el D E f g L x i d = L x i (f x i d)
+
+  pub listed-none : (el : List ℕ) → Listed s (λ x. x .place < 0) el
+  listed-none el x i d = absurd (omega arith)
+
+  pub listed-rows : (el : List ℕ) → 5 * length (treeElements s) ≤ length el → Listed s (λ x. Unit {0}) el → ElementRows s el
+  listed-rows el l L = record { room = l; records = λ x i. L x i tt .at; within = λ x i. L x i tt .few; paths = λ x i. L x i tt .path-is }
+
+-- the elements of one record, along the instances
+abbrev pub Entering : Recipe → ℕ → List ℕ → ℕ → Type 0
+Entering s p el v = Along s p (λ D. Listed s D el) v
+
 -- ---- an element record in one instance
-module _ (s : Recipe) (hold ord inst : List ℕ) (n : ℕ) (C : Listable s hold ord inst n) (p : ℕ) (here : In p (places s)) (sort : isElement s p ≡ true) where
-  pub element-low : p < 16384
-  element-low = omega (arith, place-low s p here, C .short)
-
-  abbrev path : ℕ → List ℕ
-  path i = getD (instances s) i []
-
-  -- instance i is one of the record's definition
-  module _ (i : ℕ) (l : i < n) (g : getD inst (5 * i) 0 ≡ getD hold p 0) where
+module _ {s : Recipe} {t inst : List ℕ} (T : Ready s t inst) (p : ℕ) (here : In p (places s)) (sort : isElement s p ≡ true) where
+  module _ (i : ℕ) {f o : ℕ} (h : Holds s (holder s p) i) (rf : f ≡ getD inst (6 * i + 2) 0) (ro : o ≡ getD t (p + 1) 0) where
     abbrev this : Node
-    this = node (path i) p
+    this = node (path s i) p
 
-    pub definition-is : definitionAt s (path i) ≡ holder s p
-    definition-is = sym (C .tree .model i l) ∙ g ∙ C .holds p here
-
-    pub this-in : In this (treeElements s)
+    element-this : In this (treeElements s)
     unfolding treeElements
-    this-in = node-in s (isElement s) p (path i) here (not-model s p sort) sort (let c = C .tree .count in getD-in (instances s) i [] (omega arith)) definition-is
+    element-this = this-in s (isElement s) p i here (not-model s p sort) sort h
 
-    pub this-number : getD inst (5 * i + 2) 0 + getD ord p 0 ≡ number s this
+    this-number : number s this ≡ f + o
     unfolding number node
     this-number =
-        omega (arith, C .tree .start i l, C .orders p here sort, ap (λ (d : ℕ). order s d p) definition-is)
+        omega (arith, T .planted .rows .start i (h .0), T .planted .measured .linked .numbered .orders p here sort, ap (λ (d : ℕ). order s d p) (h .1))
 
-    pub this-few : getD inst (5 * i + 2) 0 + getD ord p 0 < 1024
-    this-few = omega (arith, this-number, number-few s (C .small) this this-in)
+    pub this-few : f + o < 1024
+    this-few = omega (arith, this-number, number-few s (T .planted .row₇) this element-this)
 
-    -- it is entered
-    done-hold : (a b : List ℕ) {f o : ℕ} → f ≡ getD inst (5 * i + 2) 0 → o ≡ getD ord p 0 → length a ≡ 1024 → length b ≡ 1024
-        → Listed s (Done s p i) a b → Listed s (Done s p (i + 1)) (set a (f + o) p) (set b (f + o) i)
+    listed-one : (el : List ℕ) (D : Node → Type 0) → 5 * 1024 ≤ length el → Listed s D el → Listed s (λ q. D q ⊎ (q ≡ this)) (entered el (f + o) p i)
     unfolding node
-    done-hold a b {f} {o} rf ro la lb L x j d =
-        let e = f + o in
-        let N : e ≡ number s this = omega (arith, this-number) in
+    listed-one el D room L x j d =
         let few = this-few in
-        by-cases (eqb (number s x) e)
+        let fits : 5 * (f + o) + 4 < length el = omega arith in
+        by-cases (eqb (number s x) (f + o))
         (λ z.
-        let y : number s x ≡ e = eqb-true (number s x) e z in
-        let same : x ≡ this = number-inj s (C .small) x this j this-in (y ∙ N) in
-        let c = C .tree .count in
-        rw (y, getD-set-same a e p 0 (omega arith), getD-set-same b e i 0 (omega arith))
-        (record { at = ap (λ (v : Node). v .place) (sym same); few = omega arith; path-is = ap (λ (v : Node). v .path) (sym same) }))
+        let y : number s x ≡ f + o = eqb-true (number s x) (f + o) z in
+        let same : x ≡ this = number-inj s (T .planted .row₇) x this j element-this (y ∙ sym this-number) in
+        record {
+          at = rw y (entered-record el (f + o) p i fits ∙ ap (λ (v : Node). v .place) (sym same));
+          few = rw (y, entered-instance el (f + o) p i fits) (h .0);
+          path-is = rw (y, entered-instance el (f + o) p i fits) (ap (λ (v : Node). v .path) (sym same));
+          no-step = rw y (entered-step el (f + o) p i fits);
+        })
         (λ z.
-        let y = eqb-false (number s x) e z in
-        rw (getD-set-other a e (number s x) p 0 y, getD-set-other b e (number s x) i 0 y)
-        (L x j
-        (⊎-elim (λ (u : x .place < p). inl u)
-        (λ (u : (x .place ≡ p) × ((m : ℕ) × ((m < i + 1) × (x .path ≡ path m)))).
-        by-cases (eqb (u .1 .0) i)
-        (λ v. absurd (y (ap (number s) (node-eq {x = x} {y = this} (u .1 .1 .1 ∙ ap path (eqb-true (u .1 .0) i v)) (u .0)) ∙ sym N)))
-        (λ v. inr (u .0, (u .1 .0, (below (u .1 .0) i (u .1 .1 .0) (eqb-false (u .1 .0) i v), u .1 .1 .1))))) d)))
-      where
-        below : (m k : ℕ) → m < k + 1 → (m ≡ k → ⊥) → m < k
-        below m k v w = omega arith
+        let y = eqb-false (number s x) (f + o) z in
+        let E : Entry s el x = L x j (⊎-elim (λ (u : D x). u) (λ (u : x ≡ this). absurd (y (ap (number s) u ∙ this-number))) d) in
+        record {
+          at = entered-other el (f + o) p i fits (number s x) 0 (omega arith) y ∙ E .at;
+          few = rw (entered-other el (f + o) p i fits (number s x) 1 (omega arith) y) (E .few);
+          path-is = rw (entered-other el (f + o) p i fits (number s x) 1 (omega arith) y) (E .path-is);
+          no-step = entered-other el (f + o) p i fits (number s x) 3 (omega arith) y ∙ E .no-step;
+        })
 
-    pub entered : (a b : List ℕ) {f o : ℕ} → f ≡ getD inst (5 * i + 2) 0 → o ≡ getD ord p 0 → length a ≡ 1024 → length b ≡ 1024 → Listed s (Done s p i) a b
-        → (length (set a (f + o) p) ≡ 1024) × ((length (set b (f + o) i) ≡ 1024) × Listed s (Done s p (i + 1)) (set a (f + o) p) (set b (f + o) i))
-    entered a b {f} {o} rf ro la lb L = (length-set a (f + o) p ∙ la, (length-set b (f + o) i ∙ lb, done-hold a b rf ro la lb L))
+  -- ---- along the instances
+  pub list-start : {h v : ℕ} (el : List ℕ) → h ≡ getD t (p + 0) 0 → v ≡ getD t (h + 8) 0 → Listed s (λ q. q .place < p) el → Entering s p el v
+  list-start el a b L = begin T (isElement s) (λ D. Listed s D el) (listed-same s el) p here a b L
 
-  pub done-start : (a b : List ℕ) → Listed s (λ x. x .place < p) a b → Listed s (Done s p 0) a b
-  done-start a b L x j d =
-      L x j (⊎-elim (λ (u : x .place < p). u) (λ (u : (x .place ≡ p) × ((m : ℕ) × ((m < 0) × (x .path ≡ path m)))). absurd (let z = u .1 .1 .0 in omega arith)) d)
+  pub list-turn : {v f o x : ℕ} (el : List ℕ) {el′ : List ℕ} → f ≡ getD inst (6 * (v - 1) + 2) 0 → o ≡ getD t (p + 1) 0 → 5 * 1024 ≤ length el
+      → el′ ≡ entered el (f + o) p (v - 1) → Entering s p el v → (v ≡ 0 → ⊥) → x ≡ getD inst (6 * (v - 1) + 5) 0 → Entering s p el′ x
+  list-turn {v} {f} {o} el rf ro l r a n y =
+      rw r
+      (turn T (isElement s) (λ D. Listed s D (entered el (f + o) p (v - 1))) (listed-same s (entered el (f + o) p (v - 1))) p here (λ D. Listed s D el) a n y
+      (λ L. listed-one (v - 1) (a .0 .holds n) rf ro el (Done s p (v - 1)) l L))
 
-  pub done-other : (a b : List ℕ) (i : ℕ) → i < n → (getD inst (5 * i) 0 ≡ getD hold p 0 → ⊥) → Listed s (Done s p i) a b → Listed s (Done s p (i + 1)) a b
-  done-other a b i l e L x j d =
-      L x j
-      (⊎-elim (λ (u : x .place < p). inl u)
-      (λ (u : (x .place ≡ p) × ((m : ℕ) × ((m < i + 1) × (x .path ≡ path m)))).
-      by-cases (eqb (u .1 .0) i)
-      (λ v.
-      let k : x .path ≡ path i = u .1 .1 .1 ∙ ap path (eqb-true (u .1 .0) i v) in
-      absurd (e (C .tree .model i l ∙ ap (definitionAt s) (sym k) ∙ sym (element-holder s x j) ∙ ap (holder s) (u .0) ∙ sym (C .holds p here))))
-      (λ v. inr (u .0, (u .1 .0, (below (u .1 .0) i (u .1 .1 .0) (eqb-false (u .1 .0) i v), u .1 .1 .1))))) d)
-    where
-      below : (m k : ℕ) → m < k + 1 → (m ≡ k → ⊥) → m < k
-      below m k v w = omega arith
-
-  pub done-end : (a b : List ℕ) (i : ℕ) → n ≤ i → Listed s (Done s p i) a b → Listed s (λ x. x .place < next s p) a b
-  done-end a b i l L x j d =
-      L x j
-      (by-cases (eqb (x .place) p)
-      (λ z.
-      let m = in-getD (instances s) (x .path) [] (in-tree s x j .0) in
-      inr (eqb-true (x .place) p z, (m .0, (low (m .0) (m .1 .0), m .1 .1))))
-      (λ z. inl (places-between s p (x .place) here (element-place s x j .placed) d (eqb-false (x .place) p z))))
-    where
-      low : (m : ℕ) → m < length (instances s) → m < i
-      low m h = let c = C .tree .count in omega arith
-
--- ---- record by record
-pub listed-start : (s : Recipe) (a b : List ℕ) → Listed s (λ x. x .place < 0) a b
-listed-start s a b x j d = absurd (omega arith)
-
-pub listed-skip : (s : Recipe) (p : ℕ) (a b : List ℕ) → In p (places s) → isElement s p ≡ false → Listed s (λ x. x .place < p) a b → Listed s (λ x. x .place < next s p) a b
-listed-skip s p a b here e L x j d =
-    L x j
-    (by-cases (eqb (x .place) p)
-    (λ z. not-both (element-place s x j .passes) (rw (eqb-true (x .place) p z) e))
-    (λ z. places-between s p (x .place) here (element-place s x j .placed) d (eqb-false (x .place) p z)))
-
-pub listed-end : (s : Recipe) (p : ℕ) (a b : List ℕ) → length (s .bytes) ≤ p → Listed s (λ x. x .place < p) a b → Elements s a b
-listed-end s p a b l L = record {
-  places = λ x j. all x j .at;
-  few = λ x j. all x j .few;
-  paths = λ x j. all x j .path-is;
-}
-  where
-    all : (x : Node) → In x (treeElements s) → Entry s x (getD a (number s x) 0) (getD b (number s x) 0)
-    all x j = L x j (omega (arith, place-low s (x .place) (element-place s x j .placed)))
+  pub list-end : {v : ℕ} (el : List ℕ) → Entering s p el v → v ≡ 0 → Listed s (λ q. q .place < next s p) el
+  list-end el a z = finish T (isElement s) (λ D. Listed s D el) (listed-same s el) p here a z

@@ -1,145 +1,115 @@
--- Row 12's pass: an element record in one instance, and whether it survives with a reference at fault.
+-- Row 12's pass: the reference of an element, the end of its chain, and the lowest record of a survivor whose reference is at fault.
 -- Assumes nothing.
-use Prim.Native.Nat.{_*_, _+_, _<_, _≤_, ℕ}
-use borrow.Author.Tests.{eq-eqb, ne-eqb, not-true}
-use lib.Dec.{eqb}
-use lib.ListN.{drop, getD, length}
+use Prim.Native.Nat.{_*_, _+_, _-_, _<_, _≤_, ℕ}
+use borrow.Author.Tests.{eq-eqb, eqb-false, eqb-true, ltb-false, ltb-true}
+use lib.Dec.{eqb, ltb}
+use lib.ListN.{getD, length}
 use mathlib.Core.Bool.{Bool, _&&_, _||_, false, not, true}
-use mathlib.Core.List.{List, []}
-use mathlib.Core.Option.{Option, Option·getD, Option·map, none, some}
+use mathlib.Core.List.{List}
+use mathlib.Core.Option.{Option·getD, none, some}
 use mathlib.Core.Path.{_∙_, _≡_, ap, refl, sym}
 use native.Mathlib.Omega.{arith}
-use Rattle.names.specs.Lists.{In, any, holds}
+use Rattle.names.specs.Lists.{In, any, first}
 use Rattle.names.specs.Names.{fieldAt, isBlank}
-use Rattle.names.proofs.Lists.{any-in, any-some}
-use Rattle.names.proofs.Tests.{and-left, and-right, both, both-ways, by-option}
+use Rattle.names.proofs.Lists.{any-in, any-some, first-none, none-first, some-first}
+use Rattle.names.proofs.Tests.{and-left, and-none, and-right, both, by-cases, by-option, not-both, three}
 use Rattle.flat_table.specs.Classes.{referenceAllowed}
-use Rattle.recipe.specs.Definitions.{elementIn, holder}
+use Rattle.recipe.specs.Definitions.{elementIn}
 use Rattle.recipe.specs.Records.{Recipe, byte, class, field, isElement, kind, next, places, referenceField}
-use Rattle.recipe.proofs.Definitions.{Held, element-in, in-elements}
 use Rattle.recipe.proofs.Going.{class-low}
-use Rattle.recipe.proofs.Reading.{place-low, readable, readable-fits}
+use Rattle.recipe.proofs.Reading.{lowest-place, place-low, readable, readable-fits}
 use Rattle.recipe.proofs.RecordLengths.{length-three}
-use Rattle.tree.specs.Numbers.{number, order}
-use Rattle.tree.specs.Tree.{Node, definitionAt, instances, node, referenceOf, treeElements}
-use Rattle.tree.proofs.ByRecord.{by-none, by-record}
+use Rattle.tree.specs.Faults.{fault₇}
+use Rattle.tree.specs.Numbers.{number}
+use Rattle.tree.specs.Tree.{Node, node, referenceOf, treeElements}
 use Rattle.tree.proofs.Nodes.{reference-in}
 use Rattle.tree.proofs.Numbering.{number-few, number-inj}
-use Rattle.tree.proofs.Resolving.{not-zero}
-use Rattle.marks.specs.Cells.{Ready}
-use Rattle.marks.specs.Elements.{Elements}
-use Rattle.marks.specs.Faults.{isReference, isReferenceFault}
-use Rattle.marks.specs.Gone.{Element, GoneAt, Marked}
-use Rattle.marks.specs.Listing.{Listable}
+use Rattle.marks.specs.Cells.{Known}
+use Rattle.marks.specs.Composed.{ElementRows, Gones, Nexts, endOf}
+use Rattle.marks.specs.Faults.{fault₁₂, isReference, isReferenceFault}
+use Rattle.marks.specs.Gone.{Element, Numbers}
 use Rattle.marks.specs.Marks.{chainEnd, isGone, survivors}
-use Rattle.marks.specs.References.{FaultAt, Judged, PlacesAre, References, UnfitAt, misrefers}
-use Rattle.marks.specs.Steps.{EndsAt, Numbers, StepsAre}
+use Rattle.marks.specs.References.{EndAt, FaultAt, Referring, UnfitAt}
+use Rattle.marks.specs.Steps.{Stepping, followed}
 use Rattle.marks.proofs.Chain.{chain-in}
-use Rattle.marks.proofs.EachInstance.{no-instance, one-instance}
-use Rattle.marks.proofs.Listing.{definition-is, element-kind, element-place, not-model, ready-listable, this-in, this-number}
+use Rattle.marks.proofs.Elements.{below-more, of-element, element-held, element-room, names-none, names-some, place-is, row-place, sibling-number}
+use Rattle.marks.proofs.Ends.{end-law, stepping}
+use Rattle.marks.proofs.Gone.{gone-told}
 use Rattle.marks.proofs.Survivors.{survives, survivor}
-
--- the element at p, in the instance at the path z, survives, and its reference is at fault
-abbrev pub wrong : Recipe → ℕ → List ℕ → Bool
-wrong s p z = eqb (definitionAt s z) (holder s p) && (not (isGone s (node z p)) && isReferenceFault s (node z p))
-
--- what row 12 requires, from what the calls before it promise
-pub references : {s : Recipe} {hold rel own ord inst refs par cells go place within : List ℕ} {n : ℕ} → Ready s hold rel own ord inst n → Marked s cells ord par
-    → StepsAre s go → Elements s place within
-    → ((e : ℕ) → In e (places s) → isElement s e ≡ true → getD refs e 0 ≡ Option·getD (elementIn s e (referenceField s e)) 0)
-    → References s hold ord inst n refs par cells go place
-references R M G E r = record { listable = ready-listable R; judged = record { narrow = R .narrow; marked = M; steps = G; placed = E .places; refers = r } }
 
 module _ (s : Recipe) where
   -- the reference field of an element is in the recipe
   pub reference-low : (p : ℕ) → In p (places s) → isElement s p ≡ true → p + 1 + (s .width + (1 + s .width)) + s .width ≤ length (s .bytes)
-  unfolding next
+  unfolding next isElement
   reference-low p i e =
-      let k = element-kind s p e in
+      let k = eqb-true (kind s p) 2 e in
       omega (arith, readable-fits s p (readable s p i), length-three (s .width) (kind s p) (omega arith) (omega arith) (λ z. omega arith) (λ z. omega arith) (λ z. omega arith))
 
   pub reference-is : (p : ℕ) → fieldAt (s .width) (s .bytes) (p + 1 + (s .width + (1 + s .width))) ≡ referenceField s p
   unfolding referenceField field
   reference-is p = refl
 
-  -- survivors, as elements of the tree
-  of-tree : (p : ℕ) → misrefers s p ≡ any (λ x. eqb (x .place) p && (not (isGone s x) && isReferenceFault s x)) (treeElements s)
-  of-tree p =
-      let A : Node → Bool = λ x. eqb (x .place) p && isReferenceFault s x in
-      let B : Node → Bool = λ x. eqb (x .place) p && (not (isGone s x) && isReferenceFault s x) in
-      both-ways {a = any A (survivors s)} {b = any B (treeElements s)}
-      (λ e.
-      let r = any-some A (survivors s) e in
-      let v = survivor s (r .0) (r .1) in
-      any-in B (treeElements s) (r .0) (v .0) (both (and-left (eqb (r .0 .place) p) _ (r .2)) (both (ap not (v .1)) (and-right (eqb (r .0 .place) p) _ (r .2)))))
-      (λ e.
-      let r = any-some B (treeElements s) e in
-      let k = and-right (eqb (r .0 .place) p) _ (r .2) in
-      any-in A (survivors s) (r .0) (survives s (r .0) (r .1) (not-true (isGone s (r .0)) (and-left (not (isGone s (r .0))) _ k)))
-      (both (and-left (eqb (r .0 .place) p) _ (r .2)) (and-right (not (isGone s (r .0))) _ k)))
+-- ---- the end of the chain from a reference
+module _ {s : Recipe} {t el : List ℕ} (K : Known s t) (R : ElementRows s el) (G : Nexts s el) {e p : ℕ} (E : Element s e p) where
+  abbrev x : Node
+  x = E .it
 
-  -- a record that is no element
-  pub not-wrong : (p : ℕ) → isElement s p ≡ false → misrefers s p ≡ false
-  unfolding treeElements
-  not-wrong p k = of-tree p ∙ by-none s (isElement s) p k (λ x. not (isGone s x) && isReferenceFault s x)
+  pub referring-room : p + 13 ≤ length t
+  referring-room = omega (arith, element-room K x (E .tree), E .at)
 
-  pub wrong-start : (p : ℕ) → In p (places s) → isElement s p ≡ true → misrefers s p ≡ any (wrong s p) (instances s)
-  unfolding treeElements
-  wrong-start p i k = of-tree p ∙ by-record s (isElement s) p i (not-model s p k) k (λ x. not (isGone s x) && isReferenceFault s x)
+  module _ {m : ℕ} (r : m ≡ getD t (p + 4) 0) where
+    refers-is : m ≡ Option·getD (elementIn s (x .place) (referenceField s (x .place))) 0
+    refers-is =
+        let i = element-held s x (E .tree) in
+        r ∙ ap (λ (z : ℕ). getD t (z + 4) 0) (sym (E .at)) ∙ K .aimed .measured .linked .references (x .place) (i .placed) (i .passes)
 
--- ---- an element record in one instance
-module _ (s : Recipe) (hold ord inst : List ℕ) (n : ℕ) (C : Listable s hold ord inst n) (p : ℕ) (here : In p (places s)) (sort : isElement s p ≡ true) where
-  pub wrong-other : (i : ℕ) → i < n → (getD inst (5 * i) 0 ≡ getD hold p 0 → ⊥) → any (wrong s p) (drop i (instances s)) ≡ any (wrong s p) (drop (i + 1) (instances s))
-  wrong-other i h e =
-      one-instance s inst n (C .tree) (wrong s p) i h
-      ∙ rw (ne-eqb (definitionAt s (getD (instances s) i [])) (holder s p) (λ q. e (C .tree .model i h ∙ q ∙ sym (C .holds p here))))
+    pub end-none : m ≡ 0 → EndAt s e 0
+    unfolding endOf referenceOf
+    end-none z = of-element (K .row₇) E (endOf s) (rw (names-none s x (referenceField s (x .place)) refers-is z, endOf))
 
-  pub wrong-end : (i : ℕ) → n ≤ i → any (wrong s p) (drop i (instances s)) ≡ false
-  wrong-end i h = no-instance s inst n (C .tree) (wrong s p) i h
+    module _ (n : m ≡ 0 → ⊥) where
+      abbrev y : Node
+      y = node (x .path) m
 
-  module _ (i f : ℕ) (l : i < n) (g : getD inst (5 * i) 0 ≡ getD hold p 0) (rf : f ≡ getD inst (5 * i + 2) 0) where
-    abbrev this : Node
-    this = node (getD (instances s) i []) p
+      a-reference : referenceOf s x ≡ some y
+      unfolding referenceOf
+      a-reference = names-some s x (referenceField s (x .place)) refers-is n
 
-    its-number : number s this ≡ f + getD ord p 0
-    its-number = omega (arith, this-number s hold ord inst n C p here sort i l g)
+      pub named-tree : In y (treeElements s)
+      named-tree = reference-in s x y (E .tree) a-reference
 
-    -- what `refers_wrongly` requires
-    pub wrong-element : Element s (f + getD ord p 0) p
-    unfolding node
-    wrong-element = record { it = this; tree = this-in s hold ord inst n C p here sort i l g; num = its-number; at = refl }
+      module _ {a c : ℕ} (u : a ≡ getD t (p + 1) 0) (v : c ≡ getD t (m + 1) 0) where
+        -- what `chain_end` requires
+        pub reference-steps : Stepping el (e - a + c)
+        reference-steps = rw (sibling-number K E m named-tree u v .1) (stepping s (K .aimed .measured .linked .row₅) (K .row₇) el G y named-tree (R .room))
 
-    pub wrong-few : f + getD ord p 0 < 1024
-    wrong-few = omega (arith, its-number, number-few s (C .small) this (this-in s hold ord inst n C p here sort i l g))
+        module _ {z : ℕ} (q : z ≡ followed el 5 (e - a + c)) where
+          end-is : z ≡ number s (chainEnd s y)
+          end-is = q ∙ ap (followed el 5) (sibling-number K E m named-tree u v .1) ∙ end-law s (K .aimed .measured .linked .row₅) (K .row₇) el G y named-tree
 
-    pub wrong-hold : {g b t : Bool} → GoneAt s (f + getD ord p 0) g → FaultAt s (f + getD ord p 0) b → not g && b ≡ t
-        → any (wrong s p) (drop i (instances s)) ≡ t || any (wrong s p) (drop (i + 1) (instances s))
-    wrong-hold h k q =
-        let j = this-in s hold ord inst n C p here sort i l g in
-        one-instance s inst n (C .tree) (wrong s p) i l
-        ∙ rw (eq-eqb (definitionAt s (getD (instances s) i [])) (holder s p) (definition-is s hold ord inst n C p here sort i l g), ← q, h this j its-number, k this j its-number)
+          pub end-few : z < 1024
+          unfolding chainEnd
+          end-few = omega (arith, end-is, number-few s (K .row₇) (chainEnd s y) (chain-in s (K .aimed .measured .linked .row₅) (K .row₇) 5 y named-tree))
 
--- ---- the end of a chain
-module _ (s : Recipe) (place : List ℕ) (P : PlacesAre s place) (z : ℕ) (N : Numbers s z) where
-  place-is : (v : Node) → In v (treeElements s) → number s v ≡ z → v .place ≡ getD place z 0
-  place-is v i e = sym (P v i) ∙ ap (λ (k : ℕ). getD place k 0) e
+          pub end-some : EndAt s e (z + 1)
+          unfolding endOf
+          end-some = of-element (K .row₇) E (endOf s) (rw (a-reference, endOf) (ap (λ (k : ℕ). k + 1) end-is))
 
-  pub end-element : Element s z (getD place z 0)
-  end-element = record { it = N .0; tree = N .1; num = N .2; at = place-is (N .0) (N .1) (N .2) }
+-- ---- whether an end does
+module _ {s : Recipe} {el : List ℕ} (R : Referring s el) {z : ℕ} (N : Numbers s z) where
+  pub row-class : {q : ℕ} → q ≡ getD el (5 * z + 0) 0 → q + 1 + s .width < length (s .bytes)
+  row-class {q} r = let P = row-place (R .row₇) (R .rows) N r in class-low s q (P .0) (P .1)
 
-  pub end-low : getD place z 0 + 1 + s .width < length (s .bytes)
-  end-low = let H = element-place s (N .0) (N .1) in rw (← place-is (N .0) (N .1) (N .2)) (class-low s (N .0 .place) (H .placed) (H .passes))
-
-  pub unfit : (c : ℕ) {q : ℕ} {g k : Bool} → q ≡ getD place z 0 → GoneAt s z g → k ≡ referenceAllowed c (some (getD (s .bytes) (q + 1 + s .width) 0)) → UnfitAt s c z (g || not k)
+  pub unfit : (c : ℕ) {q g : ℕ} {k b : Bool} → q ≡ getD el (5 * z + 0) 0 → g ≡ getD el (5 * z + 2) 0 → b ≡ not (eqb g 0) → k ≡ referenceAllowed c (some (getD (s .bytes) (q + 1 + s .width) 0))
+      → UnfitAt s c z (b || not k)
   unfolding class byte
-  unfit c a h r v i e = rw (h v i e, r, a, place-is v i e)
+  unfit c {q} {g} {k} {b} r rg rb rk v i e =
+      let T = gone-told s el (R .gones) rg v i e in
+      let G : b ≡ isGone s v = rb ∙ by-cases (eqb g 0) (λ h. rw (h, T .1 (eqb-true g 0 h))) (λ h. rw (h, T .0 (eqb-false g 0 h))) in
+      rw (G, rk, r, place-is (R .row₇) (R .rows) v i e)
 
 -- ---- the test, of an element at p
 module _ (s : Recipe) (v : Node) (p : ℕ) (a : v .place ≡ p) where
-  referred : referenceOf s v ≡ Option·map (node (v .path)) (elementIn s p (referenceField s p))
-  unfolding referenceOf
-  referred = rw a
-
   test-blank : isBlank (referenceField s p) ≡ true → isReferenceFault s v ≡ not (referenceAllowed (class s p) none)
   unfolding isReferenceFault
   test-blank b = rw (a, b)
@@ -157,98 +127,131 @@ module _ (s : Recipe) (v : Node) (p : ℕ) (a : v .place ≡ p) where
       neither true k = refl
       neither false k = refl
 
--- ---- the reference of an element
-module _ (s : Recipe) (ord refs par cells go place : List ℕ) (J : Judged s ord refs par cells go place) (p f : ℕ) (E : Element s (f + getD ord p 0) p) where
-  abbrev x : Node
-  x = E .it
+-- ---- the reference of an element, by the end of its chain
+module _ {s : Recipe} {el : List ℕ} (R : Referring s el) {e z p : ℕ} (E : Element s e p) (Z : EndAt s e z) where
+  z-is : z ≡ endOf s (E .it)
+  z-is = Z (E .it) (E .tree) (E .num)
 
-  abbrev e : ℕ
-  e = f + getD ord p 0
+  module _ {b : Bool} (q : b ≡ isBlank (referenceField s p)) where
+    pub fault-blank : {k : Bool} → b ≡ true → k ≡ referenceAllowed (getD (s .bytes) (p + 1 + s .width) 0) none → FaultAt s e (not k)
+    unfolding class byte
+    fault-blank h k = of-element (R .row₇) E (isReferenceFault s) (ap not k ∙ sym (test-blank s (E .it) p (E .at) (sym q ∙ h)))
 
-  held : Held s (isElement s) (definitionAt s (x .path)) (x .place)
-  held = element-place s x (E .tree)
+    pub fault-none : b ≡ false → z ≡ 0 → FaultAt s e true
+    unfolding endOf
+    fault-none h n =
+        by-option (referenceOf s (E .it))
+        (λ o. of-element (R .row₇) E (isReferenceFault s) (sym (test-none s (E .it) p (E .at) (sym q ∙ h) o)))
+        (λ y o. let k : z ≡ number s (chainEnd s y) + 1 = z-is ∙ rw (o, endOf) in absurd (omega arith))
 
-  pub its-place : In p (places s)
-  its-place = rw (← E .at) (held .placed)
+    module _ (n : z ≡ 0 → ⊥) where
+      reaches : (y : Node) × ((referenceOf s (E .it) ≡ some y) × (In (chainEnd s y) (treeElements s) × (number s (chainEnd s y) ≡ z - 1)))
+      unfolding endOf chainEnd
+      reaches =
+          by-option (referenceOf s (E .it))
+          (λ o. absurd (n (z-is ∙ rw (o, endOf))))
+          (λ y o.
+          let k : z ≡ number s (chainEnd s y) + 1 = z-is ∙ rw (o, endOf) in
+          (y, (o, (chain-in s (R .row₅) (R .row₇) 5 y (reference-in s (E .it) y (E .tree) o), omega arith))))
 
-  pub its-sort : isElement s p ≡ true
-  its-sort = rw (← E .at) (held .passes)
+      -- what `is_unfit` requires
+      pub end-numbers : Numbers s (z - 1)
+      end-numbers = let r = reaches in (chainEnd s (r .0), r .1 .1 .0, r .1 .1 .1)
 
-  pub its-class : p + 1 + s .width < length (s .bytes)
-  its-class = class-low s p its-place its-sort
-
-  -- it is the one of its number
-  one-element : {b : Bool} → b ≡ isReferenceFault s x → FaultAt s e b
-  one-element q v i k = q ∙ ap (isReferenceFault s) (number-inj s (J .marked .small) x v (E .tree) i (E .num ∙ sym k))
-
-  pub fault-blank : {b k : Bool} → b ≡ isBlank (referenceField s p) → b ≡ true → k ≡ referenceAllowed (getD (s .bytes) (p + 1 + s .width) 0) none → FaultAt s e (not k)
-  unfolding class byte
-  fault-blank q t k = one-element (ap not k ∙ sym (test-blank s x p (E .at) (sym q ∙ t)))
-
-  refers-is : getD refs p 0 ≡ Option·getD (elementIn s p (referenceField s p)) 0
-  refers-is = J .refers p its-place its-sort
-
-  -- it names none
-  no-reference : getD refs p 0 ≡ 0 → referenceOf s x ≡ none
-  no-reference z =
-      by-option (elementIn s p (referenceField s p))
-      (λ n. referred s x p (E .at) ∙ ap (Option·map (node (x .path))) n)
-      (λ m n.
-      let i = element-in s p (referenceField s p) m n .2 in
-      let r = in-elements s (holder s p) m i .inside in
-      absurd (not-zero s (holder s p) m r (sym (refers-is ∙ ap (λ (o : Option ℕ). Option·getD o 0) n) ∙ z)))
-
-  pub fault-none : {b : Bool} → b ≡ isBlank (referenceField s p) → b ≡ false → getD refs p 0 ≡ 0 → FaultAt s e true
-  fault-none q t z = one-element (sym (test-none s x p (E .at) (sym q ∙ t) (no-reference z)))
-
-  -- it names an element of its instance
-  abbrev y : Node
-  y = node (x .path) (getD refs p 0)
-
-  module _ (z : getD refs p 0 ≡ 0 → ⊥) where
-    a-reference : referenceOf s x ≡ some y
-    a-reference =
-        by-option (elementIn s p (referenceField s p))
-        (λ n. absurd (z (refers-is ∙ ap (λ (o : Option ℕ). Option·getD o 0) n)))
-        (λ m n. referred s x p (E .at) ∙ ap (Option·map (node (x .path))) (n ∙ ap some (sym (refers-is ∙ ap (λ (o : Option ℕ). Option·getD o 0) n))))
-
-    y-tree : In y (treeElements s)
-    y-tree = reference-in s x y (E .tree) a-reference
-
-    y-held : Held s (isElement s) (definitionAt s (x .path)) (getD refs p 0)
-    unfolding node
-    y-held = element-place s y y-tree
-
-    pub reference-place : getD refs p 0 < 16384
-    reference-place = omega (arith, place-low s (getD refs p 0) (y-held .placed), J .marked .short)
-
-    y-number : number s y ≡ f + getD ord (getD refs p 0) 0
-    unfolding number node
-    y-number =
-        let d = definitionAt s (x .path) in
-        let o : getD ord p 0 ≡ order s d (x .place) =
-        ap (λ (k : ℕ). getD ord k 0) (sym (E .at)) ∙ J .marked .orders (x .place) (held .placed) (held .passes) ∙ ap (λ (k : ℕ). order s k (x .place)) (held .held) in
-        let r : getD ord (getD refs p 0) 0 ≡ order s d (getD refs p 0) =
-        J .marked .orders (getD refs p 0) (y-held .placed) (y-held .passes) ∙ ap (λ (k : ℕ). order s k (getD refs p 0)) (y-held .held) in
-        omega (arith, E .num, o, r)
-
-    pub reference-few : f + getD ord (getD refs p 0) 0 < 1024
-    reference-few = omega (arith, y-number, number-few s (J .marked .small) y y-tree)
-
-    -- what `chain_end` and `is_unfit` require
-    pub reference-numbers : Numbers s (f + getD ord (getD refs p 0) 0)
-    reference-numbers = (y, y-tree, y-number)
-
-    end-tree : In (chainEnd s y) (treeElements s)
-    unfolding chainEnd
-    end-tree = chain-in s (J .marked .declared) (J .marked .small) 5 y y-tree
-
-    module _ {k : ℕ} (K : EndsAt s (f + getD ord (getD refs p 0) 0) k) where
-      pub end-numbers : Numbers s k
-      end-numbers = (chainEnd s y, end-tree, sym (K y y-tree y-number))
-
-      pub fault-end : {b u : Bool} → b ≡ isBlank (referenceField s p) → b ≡ false → UnfitAt s (getD (s .bytes) (p + 1 + s .width) 0) k u → FaultAt s e u
+      pub fault-end : {u : Bool} → b ≡ false → UnfitAt s (getD (s .bytes) (p + 1 + s .width) 0) (z - 1) u → FaultAt s e u
       unfolding class byte
-      fault-end q t U =
-          one-element
-          (U (chainEnd s y) end-tree (sym (K y y-tree y-number)) ∙ sym (test-end s x p (E .at) y (sym q ∙ t) a-reference))
+      fault-end h U =
+          let r = reaches in
+          of-element (R .row₇) E (isReferenceFault s) (U (chainEnd s (r .0)) (r .1 .1 .0) (r .1 .1 .1) ∙ sym (test-end s (E .it) p (E .at) (r .0) (sym q ∙ h) (r .1 .0)))
+
+-- ---- the lowest record at fault, of the survivors with numbers below e: b, or the recipe's end for none
+pub record Lowest (s : Recipe) (e b : ℕ) : Type 0 where
+  pub low : (x : Node) → In x (survivors s) → number s x < e → isReferenceFault s x ≡ true → b ≤ x .place
+  pub is : b < length (s .bytes) → (x : Node) × (In x (survivors s) × ((x .place ≡ b) × (isReferenceFault s x ≡ true)))
+
+pub lowest-start : (s : Recipe) → Lowest s 0 (length (s .bytes))
+lowest-start s = record { low = λ x i l f. absurd (omega arith); is = λ l. absurd (omega arith) }
+
+module _ {s : Recipe} {e b : ℕ} (L : Lowest s e b) where
+  -- the element of number e is none, or no lower
+  pub lowest-more : ((x : Node) → In x (survivors s) → number s x ≡ e → isReferenceFault s x ≡ true → b ≤ x .place) → Lowest s (e + 1) b
+  lowest-more h = record {
+    low = λ x i l f. by-cases (eqb (number s x) e) (λ q. h x i (eqb-true (number s x) e q) f) (λ q. L .low x i (below-more l (eqb-false (number s x) e q)) f);
+    is = L .is;
+  }
+
+  -- it is lower
+  pub lowest-take : (x : Node) {p : ℕ} → In x (survivors s) → x .place ≡ p → isReferenceFault s x ≡ true → p < b
+      → ((y : Node) → In y (survivors s) → number s y ≡ e → y ≡ x) → Lowest s (e + 1) p
+  lowest-take x {p} i q f l one = record {
+    low = λ y j k g. by-cases (eqb (number s y) e)
+        (λ z. let v : y .place ≡ p = ap (λ (n : Node). n .place) (one y j (eqb-true (number s y) e z)) ∙ q in omega arith)
+        (λ z. omega (arith, L .low y j (below-more k (eqb-false (number s y) e z)) g));
+    is = λ k. (x, (i, (q, f)));
+  }
+
+  module _ (all : (x : Node) → In x (survivors s) → number s x < e) where
+    abbrev faulty : ℕ → Bool
+    faulty p = any (λ x. eqb (x .place) p && isReferenceFault s x) (survivors s)
+
+    at-least : (p : ℕ) → faulty p ≡ true → b ≤ p
+    at-least p h =
+        let r = any-some (λ x. eqb (x .place) p && isReferenceFault s x) (survivors s) h in
+        omega (arith, L .low (r .0) (r .1) (all (r .0) (r .1)) (and-right (eqb (r .0 .place) p) _ (r .2)), eqb-true (r .0 .place) p (and-left (eqb (r .0 .place) p) _ (r .2)))
+
+    pub lowest-found : b < length (s .bytes) → fault₁₂ s ≡ some b
+    unfolding fault₁₂
+    lowest-found l =
+        let r = L .is l in
+        let t : faulty b ≡ true = any-in (λ x. eqb (x .place) b && isReferenceFault s x) (survivors s) (r .0) (r .1 .0) (both (eq-eqb (r .0 .place) b (r .1 .1 .0)) (r .1 .1 .1)) in
+        let placed : In b (places s) = rw (r .1 .1 .0) at (element-held s (r .0) (survivor s (r .0) (r .1 .0) .0) .placed) in
+        by-option (first faulty (places s))
+        (λ o. not-both t (none-first faulty (places s) b o placed))
+        (λ q o.
+        let f = some-first faulty (places s) q o in
+        three b q
+        (λ k. not-both t (lowest-place s faulty q b o placed k))
+        (λ k. o ∙ ap some (sym k))
+        (λ k. absurd (omega (arith, at-least q (f .1)))))
+
+    pub lowest-none : length (s .bytes) ≤ b → fault₁₂ s ≡ none
+    unfolding fault₁₂
+    lowest-none l =
+        first-none faulty (places s)
+        (λ p i. by-cases (faulty p) (λ h. absurd (omega (arith, at-least p h, place-low s p i))) (λ h. h))
+
+-- ---- the turn of the pass at the element of number e
+pub referring : {s : Recipe} {t el : List ℕ} → Known s t → ElementRows s el → Gones s el → Referring s el
+referring K R G = record {
+  narrow = K .aimed .measured .linked .numbered .shadowed .narrow;
+  short = K .aimed .measured .linked .numbered .shadowed .short;
+  row₅ = K .aimed .measured .linked .row₅;
+  row₇ = K .row₇;
+  rows = R;
+  gones = G;
+}
+
+module _ (s : Recipe) (el : List ℕ) (G : Gones s el) {e c : ℕ} (r : c ≡ getD el (5 * e + 2) 0) where
+  -- it is gone
+  pub none-survives : (c ≡ 0 → ⊥) → (x : Node) → In x (survivors s) → number s x ≡ e → ⊥
+  none-survives z x i n = not-both (gone-told s el G r x (survivor s x i .0) n .0 z) (survivor s x i .1)
+
+  -- it survives
+  pub it-survives : c ≡ 0 → (x : Node) → In x (treeElements s) → number s x ≡ e → In x (survivors s)
+  it-survives z x i n = survives s x i (gone-told s el G r x i n .1 z)
+
+module _ {s : Recipe} {e b p : ℕ} {u : Bool} (L : Lowest s e b) (h₇ : fault₇ s ≡ none) (E : Element s e p) (F : FaultAt s e u) where
+  pub lowest-kept : u && ltb p b ≡ false → Lowest s (e + 1) b
+  lowest-kept z =
+      lowest-more L
+      (λ x i n f.
+      let j = survivor s x i .0 in
+      let same : x ≡ E .it = number-inj s h₇ x (E .it) j (E .tree) (n ∙ sym (E .num)) in
+      let q : x .place ≡ p = ap (λ (v : Node). v .place) same ∙ E .at in
+      let l : ltb p b ≡ false = and-none u (ltb p b) (F x j n ∙ f) z in
+      omega (arith, ltb-false p b l))
+
+  pub lowest-lower : u && ltb p b ≡ true → ((x : Node) → In x (treeElements s) → number s x ≡ e → In x (survivors s)) → Lowest s (e + 1) p
+  lowest-lower z i =
+      lowest-take L (E .it) (i (E .it) (E .tree) (E .num)) (E .at) (sym (F (E .it) (E .tree) (E .num)) ∙ and-left u (ltb p b) z) (ltb-true p b (and-right u (ltb p b) z))
+      (λ y j n. number-inj s h₇ y (E .it) (survivor s y j .0) (E .tree) (n ∙ sym (E .num)))

@@ -22,7 +22,6 @@ use Rattle.marks.specs.Faults.{fault₉}
 use Rattle.marks.specs.Marks.{aim, from, marksClash, owner, ownerClash, ownsBy, replaces, sameAim, step, stepDown, treeMarks}
 use Rattle.marks.proofs.Conflicts.{marks-conflict, no-conflict, owner-conflict, owner-conflict′}
 use Rattle.marks.proofs.Marks.{aim-target, aimed, aims, is-mark, mark-place, mark-pointer, pointer-holder}
-use Rattle.marks.proofs.Turn.{path}
 
 module _ (s : Recipe) (h₄ : fault₄ s ≡ none) (h₅ : fault₅ s ≡ none) (h₉ : fault₉ s ≡ none) where
   -- two marks with one target are one

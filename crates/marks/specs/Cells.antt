@@ -1,19 +1,18 @@
--- The cells of an element, which marks and ports set and ask, the tables that this takes, and what one record does to the cells.
+-- The cells of an element, which marks and ports set and ask, and what one record does to the cells.
 -- Assumes nothing.
-use Prim.Native.Nat.{_*_, _+_, _-_, _≤_, suc, zero, ℕ}
+use Prim.Native.Nat.{_*_, _+_, _-_, suc, zero, ℕ}
 use lib.Dec.{eqb, leb, ltb}
 use lib.ListN.{getD, length, set}
 use mathlib.Core.Bool.{Bool, _&&_, _||_, cond, false, not, true}
 use mathlib.Core.List.{List, [], _∷_}
 use mathlib.Core.Option.{none, some}
 use mathlib.Core.Path.{_≡_}
-use Rattle.names.specs.Lists.{In, among, any}
-use Rattle.recipe.specs.Definitions.{holder, ownerOf}
-use Rattle.recipe.specs.Reading.{fault₅}
-use Rattle.recipe.specs.Records.{Recipe, isElement, isPort, isReplacedBy, isReplacement, places, stop, portKind, replacedByKind, markKind}
-use Rattle.tree.specs.Faults.{fault₇, fault₈}
-use Rattle.tree.specs.Numbers.{Instances, number, order, reach}
-use Rattle.tree.specs.Tree.{Node}
+use Rattle.names.specs.Lists.{In, among}
+use Rattle.recipe.specs.Records.{Recipe, isPort, isReplacedBy, portKind, replacedByKind, markKind}
+use Rattle.tree.specs.Numbers.{number}
+use Rattle.tree.specs.Faults.{fault₇}
+use Rattle.tree.specs.Planted.{Aimed, Targeted}
+use Rattle.tree.specs.Tree.{Node, instances}
 use Rattle.marks.specs.Marks.{aim, owner, treePointers}
 
 -- the number of a target (0 where there is none, which row 8 refuses)
@@ -66,29 +65,23 @@ unfoldable pub anySet : List ℕ → ℕ → ℕ → Bool
 anySet t a zero = false
 anySet t a (suc n) = isSet t a || anySet t (suc a) n
 
--- the cells are those that the marks and ports whose records come before p set
-abbrev pub Cells : Recipe → ℕ → List ℕ → Type 0
-Cells s p t = (c : ℕ) → isSet t c ≡ any (λ q. ltb (q .place) p && among c (stamps s q)) (treePointers s)
+-- the cells are those that the marks and ports set that D says, and no other
+pub record Stamped (s : Recipe) (D : Node → Type 0) (t : List ℕ) : Type 0 where
+  pub has : (q : Node) → In q (treePointers s) → D q → (c : ℕ) → among c (stamps s q) ≡ true → isSet t c ≡ true
+  pub only : (c : ℕ) → isSet t c ≡ true → (q : Node) × (In q (treePointers s) × (D q × (among c (stamps s q) ≡ true)))
 
--- by a record's place: its definition; of a mark or port, its target's number from the first element of its instance; of a mark, its owner's place;
--- of an element, its number in its definition
-pub record Links (s : Recipe) (hold rel own ord : List ℕ) : Type 0 where
-  pub holds : (p : ℕ) → In p (places s) → getD hold p 0 ≡ holder s p
-  pub reaches : (x : Node) → In x (treePointers s) → getD rel (x .place) 0 ≡ reach s (x .place)
-  pub owners : (x : Node) → In x (treePointers s) → isReplacement s (x .place) || isReplacedBy s (x .place) ≡ true
-      → getD own (x .place) 0 ≡ ownerOf s (x .place)
-  pub orders : (e : ℕ) → In e (places s) → isElement s e ≡ true → getD ord e 0 ≡ order s (holder s e) e
+-- all of them
+abbrev pub AllStamped : Recipe → List ℕ → Type 0
+AllStamped s t = Stamped s (λ q. Unit {0}) t
 
--- what the passes over marks and ports require: rows 1, 2, 5, 7 and 8 are clear, and the tables
-pub record Ready (s : Recipe) (hold rel own ord inst : List ℕ) (n : ℕ) : Type 0 where
-  pub narrow : s .width ≤ 65536
-  pub short : length (s .bytes) ≤ 16384
-  pub whole : stop s ≡ length (s .bytes)
-  pub declared : fault₅ s ≡ none
-  pub small : fault₇ s ≡ none
-  pub aims : fault₈ s ≡ none
-  pub links : Links s hold rel own ord
-  pub tree : Instances s inst n
+-- what the passes over elements require: rows 1 to 8 do not apply
+pub record Known (s : Recipe) (t : List ℕ) : Type 0 where
+  pub aimed : Aimed s t
+  pub row₇ : fault₇ s ≡ none
+
+-- what those over marks and ports require: and the rows of the instances
+abbrev pub Ready : Recipe → List ℕ → List ℕ → Type 0
+Ready s t inst = Targeted s t inst (length (instances s))
 
 -- a cell that a record of kind k asks is set: e its target's number, o its owner's, d its depth
 unfoldable pub meets : List ℕ → ℕ → ℕ → ℕ → ℕ → Bool

@@ -4,6 +4,6 @@ pub mod Faults
 pub mod Cells
 pub mod Steps
 pub mod Gone
-pub mod Elements
 pub mod Listing
+pub mod Composed
 pub mod References

@@ -1,45 +1,30 @@
--- Row 12 by its records: the test of one, and the tables that the pass requires.
+-- Row 12 by the numbers of its elements: whether an end does, and whether a reference is at fault.
 -- Assumes nothing.
 use Prim.Native.Nat.{_≤_, ℕ}
-use lib.Dec.{eqb}
-use lib.ListN.{getD}
-use mathlib.Core.Bool.{Bool, _&&_, _||_, not, true}
+use lib.ListN.{length}
 use mathlib.Core.List.{List}
-use mathlib.Core.Option.{Option·getD, some}
+use mathlib.Core.Bool.{Bool, _||_, not}
+use mathlib.Core.Option.{none, some}
 use mathlib.Core.Path.{_≡_}
-use Rattle.names.specs.Lists.{In, any}
+use Rattle.names.specs.Lists.{In}
 use Rattle.flat_table.specs.Classes.{referenceAllowed}
-use Rattle.recipe.specs.Definitions.{elementIn}
-use Rattle.recipe.specs.Records.{Recipe, class, isElement, places, referenceField}
+use Rattle.recipe.specs.Reading.{fault₅}
+use Rattle.recipe.specs.Records.{Recipe, class}
+use Rattle.tree.specs.Faults.{fault₇}
 use Rattle.tree.specs.Numbers.{number}
 use Rattle.tree.specs.Tree.{Node, treeElements}
+use Rattle.marks.specs.Composed.{ElementRows, Gones, endOf}
 use Rattle.marks.specs.Faults.{isReferenceFault}
-use Rattle.marks.specs.Gone.{Marked}
-use Rattle.marks.specs.Listing.{Listable}
-use Rattle.marks.specs.Marks.{isGone, survivors}
-use Rattle.marks.specs.Steps.{StepsAre}
+use Rattle.marks.specs.Marks.{isGone}
 
--- row 12, of the record at p: it is the record of a survivor whose reference is at fault
-abbrev pub misrefers : Recipe → ℕ → Bool
-misrefers s p = any (λ x. eqb (x .place) p && isReferenceFault s x) (survivors s)
-
--- by an element's number its place
-abbrev pub PlacesAre : Recipe → List ℕ → Type 0
-PlacesAre s place = (x : Node) → In x (treeElements s) → getD place (number s x) 0 ≡ x .place
-
--- what it takes to judge a reference: what is gone, the chain's steps, the places, and by an element's place that of the element
--- that its reference names (0 for none)
-pub record Judged (s : Recipe) (ord refs par cells go place : List ℕ) : Type 0 where
-  pub narrow : s .width ≤ 65536
-  pub marked : Marked s cells ord par
-  pub steps : StepsAre s go
-  pub placed : PlacesAre s place
-  pub refers : (e : ℕ) → In e (places s) → isElement s e ≡ true → getD refs e 0 ≡ Option·getD (elementIn s e (referenceField s e)) 0
-
--- what row 12 requires
-pub record References (s : Recipe) (hold ord inst : List ℕ) (n : ℕ) (refs par cells go place : List ℕ) : Type 0 where
-  pub listable : Listable s hold ord inst n
-  pub judged : Judged s ord refs par cells go place
+-- what it takes to judge a reference, besides the end of its chain: rows 1, 2 and 7 do not apply, and the columns 0 to 2
+pub record Referring (s : Recipe) (el : List ℕ) : Type 0 where
+  pub narrow : s .width ≤ 64
+  pub short : length (s .bytes) ≤ 16384
+  pub row₅ : fault₅ s ≡ none
+  pub row₇ : fault₇ s ≡ none
+  pub rows : ElementRows s el
+  pub gones : Gones s el
 
 -- b says whether the element of number z is no fit end of a chain, for a reference of class c
 abbrev pub UnfitAt : Recipe → ℕ → ℕ → Bool → Type 0
@@ -48,3 +33,7 @@ UnfitAt s c z b = (v : Node) → In v (treeElements s) → number s v ≡ z → 
 -- b says whether the reference of the element of number e is at fault
 abbrev pub FaultAt : Recipe → ℕ → Bool → Type 0
 FaultAt s e b = (x : Node) → In x (treeElements s) → number s x ≡ e → b ≡ isReferenceFault s x
+
+-- z is one more than the number of the end of the chain from the reference of the element of number e, or 0
+abbrev pub EndAt : Recipe → ℕ → ℕ → Type 0
+EndAt s e z = (x : Node) → In x (treeElements s) → number s x ≡ e → z ≡ endOf s x

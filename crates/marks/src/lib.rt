@@ -1,48 +1,76 @@
-// Conflicts, elements that are gone, and the chain, and the refusals 9, 11 and 12.
-// For the floor above: first_conflict, fill_steps, is_gone, chain_end, first_lost, list_elements, first_misreferred. They take the name width w,
-// and the tables of the floors below.
+// Conflicts, elements that are gone, the chain, and the elements of the tree as rows of five; the refusals 9, 11 and 12.
+// For the floor above: judge_marks, which calls the passes in their order, chain_end, and the columns of an element's row. They take the name width w, the shadow t, the rows of the instances inst,
+// and the rows of the elements el; `specs/Composed.antt` has what each column means.
 ghost use mathlib.Core.Path.{_≡_};
 ghost use mathlib.Core.Bool.{true, _||_};
 ghost use mathlib.Core.Option.{none};
-ghost use Prim.Native.Nat.{_+_, _≤_, _<_};
-ghost use lib.ListN.{length, getD, replicate};
+ghost use mathlib.Core.List.{_++_};
+ghost use Prim.Native.Nat.{_*_, _+_, _≤_, _<_};
+ghost use lib.ListN.{length, getD, set, replicate};
 ghost use Rattle.names.specs.Lists.{In};
 ghost use Rattle.names.specs.Names.{isBlank};
+ghost use Rattle.names.specs.Judging.{judged, handed};
 ghost use Rattle.names.specs.Scans.{foundOf};
-ghost use Rattle.recipe.specs.Records.{Recipe, places, isElement, isMark, isPort, isReplacedBy, next, referenceField, replacedByKind};
-ghost use Rattle.recipe.specs.Reading.{fault₅};
-ghost use Rattle.tree.specs.Tree.{Node, treeElements};
-ghost use Rattle.tree.specs.Faults.{fault₇};
-ghost use Rattle.tree.specs.Numbers.{number};
-ghost use Rattle.tree.specs.Resolve.{Aims};
-ghost use Rattle.marks.specs.Faults.{conflictsWithEarlier, fault₉, aimsAtGone, fault₁₁, fault₁₂};
-ghost use Rattle.marks.specs.Cells.{anySet, isSet, ownerCell, goneCell, Cells, Ready, meets, stamped};
-ghost use Rattle.marks.specs.Gone.{Element, Marked, GoneAt};
-ghost use Rattle.marks.specs.Elements.{Elements};
-ghost use Rattle.marks.specs.Listing.{Listable, Listed};
-ghost use Rattle.marks.specs.References.{PlacesAre, Judged, References, misrefers, UnfitAt, FaultAt};
-ghost use Rattle.marks.specs.Steps.{isStep, Went, Clear, stepped, stepOf, StepsAre, Numbers, EndsAt};
+ghost use Rattle.recipe.specs.Records.{recipeAt, places, isElement, isOwned, isPointer, isReplacedBy, next, ownedKind, referenceField, replacedByKind};
+ghost use Rattle.tree.specs.Planted.{Targeted};
+ghost use Rattle.tree.specs.Tree.{treeElements};
+ghost use Rattle.marks.specs.Faults.{conflictsWithEarlier, fault₉, aimsAtGone, fault₁₁, fault₁₂, markRows, referenceRows};
+ghost use Rattle.marks.specs.Cells.{anySet, isSet, ownerCell, goneCell, Stamped, AllStamped, Known, Ready, meets, stamped};
+ghost use Rattle.marks.specs.Gone.{Element, GoneAt, Numbers};
+ghost use Rattle.marks.specs.Listing.{Listed, Only};
+ghost use Rattle.marks.specs.Steps.{NoSteps, Went, stepped, followed, Stepping};
+ghost use Rattle.marks.specs.Composed.{ElementRows, Gones, Nexts, Ends, Composed};
+ghost use Rattle.marks.specs.References.{Referring, UnfitAt, FaultAt, EndAt};
 use names::Found;
+use names::Refusal;
+use shadow::DEFINITION_OF;
+use shadow::ELEMENT_ORDER;
+use shadow::FIRST_INSTANCE;
+use shadow::OWNER;
+use shadow::PARENT;
+use shadow::REFERENCE;
+use shadow::TARGET_NUMBER;
+use shadow::cell;
+use shadow::set_cell;
+use tree::DEPTH;
+use tree::FIRST_ELEMENT;
+use tree::NEXT_SAME;
 
-// The entry at i of a table by place, if it has one.
-fn entry(t: &[u16; 16384], i: usize) -> usize
-    ensures { λ r. ⌜ (i < 16384 → r ≡ getD (now (t .entry)) i 0) × (r < 65536) ⌝ }
+// The columns of an element.
+pub const RECORD: usize = 0;
+
+pub const INSTANCE: usize = 1;
+
+pub const GONE: usize = 2;
+
+pub const CHAIN_NEXT: usize = 3;
+
+pub const REFERENCE_END: usize = 4;
+
+// Twelve cells for each of at most 1,024 elements.
+const CELLS: usize = 12288;
+
+// The number of an owner in its definition, of a record of kind k that has one.
+fn owner_order(t: &[u16], p: usize, k: u8) -> usize
+    requires { ⌜ (p + 3 < length (now t)) × (ownedKind k ≡ true → getD (now t) (p + 3) 0 + 1 < length (now t)) ⌝ }
+    ensures { λ r. ⌜ (ownedKind k ≡ true → r ≡ getD (now (t .entry)) (getD (now (t .entry)) (p + 3) 0 + 1) 0) × (r < 65536) ⌝ }
 {
-    if i < 16384 {
-        return recipe::wide(t[i]);
+    if !recipe::is_owned(k) {
+        return 0;
     }
-    0
+    let q = cell(t, p, OWNER);
+    cell(t, q, ELEMENT_ORDER)
 }
 
 // One of n cells from a on is set.
-fn any_set(t: &[u8; 12288], a: usize, n: usize) -> bool
-    requires { ⌜ a + n ≤ 12288 ⌝ }
-    ensures { λ r. ⌜ r ≡ anySet (now (t .entry)) a n ⌝ }
+fn any_set(cells: &[u8], a: usize, n: usize) -> bool
+    requires { ⌜ a + n ≤ length (now cells) ⌝ }
+    ensures { λ r. ⌜ r ≡ anySet (now (cells .entry)) a n ⌝ }
 {
     let mut i = a;
     let mut left = n;
     while left > 0 {
-        if t[i] != 0 {
+        if cells[i] != 0 {
             return true;
         }
         i += 1;
@@ -52,271 +80,296 @@ fn any_set(t: &[u8; 12288], a: usize, n: usize) -> bool
 }
 
 // A cell that a record of kind k asks is set: e is its target's number, o its owner's, d its depth.
-fn meets_any(t: &[u8; 12288], k: u8, e: usize, o: usize, d: usize) -> bool
-    requires { ⌜ (e < 1024) × ((d ≤ 4) × (replacedByKind k ≡ true → o < 1024)) ⌝ }
-    ensures { λ r. ⌜ r ≡ meets (now (t .entry)) k e o d ⌝ }
+fn meets_any(cells: &[u8], k: u8, e: usize, o: usize, d: usize) -> bool
+    requires { ⌜ (length (now cells) ≡ 12 * 1024) × ((e < 1024) × ((d ≤ 4) × (replacedByKind k ≡ true → o < 1024))) ⌝ }
+    ensures { λ r. ⌜ r ≡ meets (now (cells .entry)) k e o d ⌝ }
 {
     if recipe::is_port(k) {
-        if any_set(t, 12 * e, 6 - d) {
+        if any_set(cells, 12 * e, 6 - d) {
             return true;
         }
-        return any_set(t, 12 * e + (6 + d), 1);
+        return any_set(cells, 12 * e + (6 + d), 1);
     }
     if !recipe::is_mark(k) {
         return false;
     }
-    if any_set(t, 12 * e, 7 + d) {
+    if any_set(cells, 12 * e, 7 + d) {
         return true;
     }
     if recipe::is_replaced_by(k) {
-        return any_set(t, 12 * o + 1, 10);
+        return any_set(cells, 12 * o + 1, 10);
     }
     false
 }
 
 // Sets the cells of a record.
-fn stamp(t: &mut [u8; 12288], k: u8, e: usize, o: usize, d: usize)
-    requires { ⌜ (e < 1024) × ((d ≤ 4) × (replacedByKind k ≡ true → o < 1024)) ⌝ }
-    ensures { λ _. ⌜ now (t .exit) ≡ stamped (now (t .entry)) k e o d ⌝ }
+fn stamp(cells: &mut [u8], k: u8, e: usize, o: usize, d: usize)
+    requires { ⌜ (length (now cells) ≡ 12 * 1024) × ((e < 1024) × ((d ≤ 4) × (replacedByKind k ≡ true → o < 1024))) ⌝ }
+    ensures { λ _. ⌜ now (cells .exit) ≡ stamped (now (cells .entry)) k e o d ⌝ }
 {
     if recipe::is_port(k) {
-        t[12 * e + (6 + d)] = 1;
+        cells[12 * e + (6 + d)] = 1;
         return;
     }
     if !recipe::is_mark(k) {
         return;
     }
-    t[12 * e + (5 - d)] = 1;
+    cells[12 * e + (5 - d)] = 1;
     if recipe::is_replaced_by(k) {
-        t[12 * o] = 1;
+        cells[12 * o] = 1;
         return;
     }
-    t[12 * e + 11] = 1;
+    cells[12 * e + 11] = 1;
 }
 
-// The record at p, a mark or port, conflicts with an earlier one.
-fn conflicts_at(
-    s: &[u8],
-    w: usize,
-    p: usize,
-    hold: &[u16; 16384],
-    rel: &[u16; 16384],
-    own: &[u16; 16384],
-    ord: &[u16; 16384],
-    inst: &[u16; 320],
-    n: usize,
-    t: &[u8; 12288],
-) -> bool
-    requires { ⌜ Ready (record { width = w; bytes = now s }) (now hold) (now rel) (now own) (now ord) (now inst) n × (In p (places (record { width = w; bytes = now s })) × ((isMark (record { width = w; bytes = now s }) p || isPort (record { width = w; bytes = now s }) p ≡ true) × Cells (record { width = w; bytes = now s }) p (now t))) ⌝ }
-    ensures { λ r. ⌜ r ≡ conflictsWithEarlier (record { width = w; bytes = now (s .entry) }) p ⌝ }
+// The record at p, a mark or port, conflicts with an earlier one. Along the instances of its definition v is one more than the number of the next, or 0 behind the last.
+fn conflicts_at(s: &[u8], w: usize, p: usize, t: &[u16], inst: &[u16], cells: &[u8]) -> bool
+    requires { ⌜ Ready (recipeAt w (now s)) (now t) (now inst) × (In p (places (recipeAt w (now s))) × ((isPointer (recipeAt w (now s)) p ≡ true) × (Stamped (recipeAt w (now s)) (λ q. q .place < p) (now cells) × (length (now cells) ≡ 12 * 1024)))) ⌝ }
+    ensures { λ r. ⌜ r ≡ conflictsWithEarlier (recipeAt w (now (s .entry))) p ⌝ }
 {
     let k = s[p];
-    let h = hold[p];
-    let e = recipe::wide(rel[p]);
-    let o = entry(ord, recipe::wide(own[p]));
-    let mut i = 0;
-    while i < n {
-        if inst[5 * i] == h {
-            let f = recipe::wide(inst[5 * i + 2]);
-            let d = recipe::wide(inst[5 * i + 1]);
-            if meets_any(t, k, f + e, f + o, d) {
-                return true;
-            }
-            i += 1;
-        } else {
-            i += 1;
+    let e = cell(t, p, TARGET_NUMBER);
+    let o = owner_order(t, p, k);
+    let h = cell(t, p, DEFINITION_OF);
+    let mut v = cell(t, h, FIRST_INSTANCE);
+    while v != 0 {
+        let row = 6 * (v - 1);
+        let f = cell(inst, row, FIRST_ELEMENT);
+        let d = cell(inst, row, DEPTH);
+        if meets_any(cells, k, f + e, f + o, d) {
+            return true;
         }
+        v = cell(inst, row, NEXT_SAME);
     }
     false
 }
 
 // Sets the cells of the record at p, a mark or port, in each instance of its definition.
-fn enter_at(
-    s: &[u8],
-    w: usize,
-    p: usize,
-    hold: &[u16; 16384],
-    rel: &[u16; 16384],
-    own: &[u16; 16384],
-    ord: &[u16; 16384],
-    inst: &[u16; 320],
-    n: usize,
-    t: &mut [u8; 12288],
-)
-    requires { ⌜ Ready (record { width = w; bytes = now s }) (now hold) (now rel) (now own) (now ord) (now inst) n × (In p (places (record { width = w; bytes = now s })) × ((isMark (record { width = w; bytes = now s }) p || isPort (record { width = w; bytes = now s }) p ≡ true) × (Cells (record { width = w; bytes = now s }) p (now t) × (length (now t) ≡ 12288)))) ⌝ }
-    ensures { λ _. ⌜ Cells (record { width = w; bytes = now (s .entry) }) (next (record { width = w; bytes = now (s .entry) }) p) (now (t .exit)) × (length (now (t .exit)) ≡ 12288) ⌝ }
+fn enter_at(s: &[u8], w: usize, p: usize, t: &[u16], inst: &[u16], cells: &mut [u8])
+    requires { ⌜ Ready (recipeAt w (now s)) (now t) (now inst) × (In p (places (recipeAt w (now s))) × ((isPointer (recipeAt w (now s)) p ≡ true) × (Stamped (recipeAt w (now s)) (λ q. q .place < p) (now cells) × (length (now cells) ≡ 12 * 1024)))) ⌝ }
+    ensures { λ _. ⌜ Stamped (recipeAt w (now (s .entry))) (λ q. q .place < next (recipeAt w (now (s .entry))) p) (now (cells .exit)) × (length (now (cells .exit)) ≡ 12 * 1024) ⌝ }
 {
     let k = s[p];
-    let h = hold[p];
-    let e = recipe::wide(rel[p]);
-    let o = entry(ord, recipe::wide(own[p]));
-    let mut i = 0;
-    while i < n {
-        if inst[5 * i] == h {
-            let f = recipe::wide(inst[5 * i + 2]);
-            let d = recipe::wide(inst[5 * i + 1]);
-            stamp(t, k, f + e, f + o, d);
-            i += 1;
-        } else {
-            i += 1;
-        }
+    let e = cell(t, p, TARGET_NUMBER);
+    let o = owner_order(t, p, k);
+    let h = cell(t, p, DEFINITION_OF);
+    let mut v = cell(t, h, FIRST_INSTANCE);
+    while v != 0 {
+        let row = 6 * (v - 1);
+        let f = cell(inst, row, FIRST_ELEMENT);
+        let d = cell(inst, row, DEPTH);
+        stamp(cells, k, f + e, f + o, d);
+        v = cell(inst, row, NEXT_SAME);
     }
 }
 
 // Row 9: the first record that conflicts with an earlier one; where there is none, the cells that all records set.
-pub fn first_conflict(
-    s: &[u8],
-    w: usize,
-    hold: &[u16; 16384],
-    rel: &[u16; 16384],
-    own: &[u16; 16384],
-    ord: &[u16; 16384],
-    inst: &[u16; 320],
-    n: usize,
-    t: &mut [u8; 12288],
-) -> Found
-    requires { ⌜ Ready (record { width = w; bytes = now s }) (now hold) (now rel) (now own) (now ord) (now inst) n × (Cells (record { width = w; bytes = now s }) 0 (now t) × (length (now t) ≡ 12288)) ⌝ }
-    ensures { λ r. ⌜ (r ≡ foundOf (fault₉ (record { width = w; bytes = now (s .entry) }))) × (r ≡ Found.Nothing → Cells (record { width = w; bytes = now (s .entry) }) (length (now (s .entry))) (now (t .exit))) ⌝ }
+pub fn first_conflict(s: &[u8], w: usize, t: &[u16], inst: &[u16], cells: &mut [u8]) -> Found
+    requires { ⌜ Ready (recipeAt w (now s)) (now t) (now inst) × (now cells ≡ replicate (12 * 1024) 0) ⌝ }
+    ensures { λ r. ⌜ (r ≡ foundOf (fault₉ (recipeAt w (now (s .entry))))) × (r ≡ Found.Nothing → AllStamped (recipeAt w (now (s .entry))) (now (cells .exit)) × (length (now (cells .exit)) ≡ 12 * 1024)) ⌝ }
 {
     let mut p = 0;
     while p < s.len() {
         let k = s[p];
+        let next = p + recipe::record_length(k, w);
         if recipe::is_pointer(k) {
-            if conflicts_at(s, w, p, hold, rel, own, ord, inst, n, t) {
+            if conflicts_at(s, w, p, t, inst, cells) {
                 return Found::At(p);
             }
-            enter_at(s, w, p, hold, rel, own, ord, inst, n, t);
-            p += recipe::record_length(k, w);
+            enter_at(s, w, p, t, inst, cells);
+            p = next;
         } else {
-            p += recipe::record_length(k, w);
+            p = next;
+        }
+    }
+    Found::Nothing
+}
+
+// Enters the element of number e: the place of its record, the number of its instance, and as yet no step.
+fn put_element(el: &mut [u16], e: usize, p: usize, i: usize)
+    requires { ⌜ (5 * e + 4 < length (now el)) × ((p < 65536) × (i < 65536)) ⌝ }
+    ensures { λ _. ⌜ now (el .exit) ≡ set (set (set (now (el .entry)) (5 * e + 0) p) (5 * e + 1) i) (5 * e + 3) 0 ⌝ }
+{
+    set_cell(el, 5 * e, RECORD, p);
+    set_cell(el, 5 * e, INSTANCE, i);
+    set_cell(el, 5 * e, CHAIN_NEXT, 0);
+}
+
+// Enters the element at p, in each instance of its definition.
+fn elements_at(s: &[u8], w: usize, p: usize, t: &[u16], inst: &[u16], el: &mut [u16])
+    requires { ⌜ Ready (recipeAt w (now s)) (now t) (now inst) × (In p (places (recipeAt w (now s))) × ((isElement (recipeAt w (now s)) p ≡ true) × (Listed (recipeAt w (now s)) (λ x. x .place < p) (now el) × (5 * 1024 ≤ length (now el))))) ⌝ }
+    ensures { λ _. ⌜ Listed (recipeAt w (now (s .entry))) (λ x. x .place < next (recipeAt w (now (s .entry))) p) (now (el .exit)) × (length (now (el .exit)) ≡ length (now (el .entry))) ⌝ }
+{
+    let o = cell(t, p, ELEMENT_ORDER);
+    let h = cell(t, p, DEFINITION_OF);
+    let mut v = cell(t, h, FIRST_INSTANCE);
+    while v != 0 {
+        let i = v - 1;
+        let row = 6 * i;
+        let f = cell(inst, row, FIRST_ELEMENT);
+        put_element(el, f + o, p, i);
+        v = cell(inst, row, NEXT_SAME);
+    }
+}
+
+// The elements of the tree by their numbers: the place of each one's record, and the number of its instance.
+pub fn list_elements(s: &[u8], w: usize, t: &[u16], inst: &[u16], el: &mut [u16])
+    requires { ⌜ Ready (recipeAt w (now s)) (now t) (now inst) × (5 * 1024 ≤ length (now el)) ⌝ }
+    ensures { λ _. ⌜ Listed (recipeAt w (now (s .entry))) (λ x. Unit {0}) (now (el .exit)) × (length (now (el .exit)) ≡ length (now (el .entry))) ⌝ }
+{
+    let mut p = 0;
+    while p < s.len() {
+        let k = s[p];
+        let next = p + recipe::record_length(k, w);
+        if k == 2 {
+            elements_at(s, w, p, t, inst, el);
+            p = next;
+        } else {
+            p = next;
+        }
+    }
+}
+
+// Whether the element of number e is marked as gone, by its cells.
+fn is_marked(cells: &[u8], e: usize) -> bool
+    requires { ⌜ (length (now cells) ≡ 12 * 1024) × (e < 1024) ⌝ }
+    ensures { λ r. ⌜ r ≡ isSet (now (cells .entry)) (ownerCell e) || isSet (now (cells .entry)) (goneCell e) ⌝ }
+{
+    (cells[12 * e] != 0) | (cells[12 * e + 11] != 0)
+}
+
+// Whether the element of number e, at place q, is gone: marked so itself, or a child of one that is.
+fn is_gone(s: &[u8], w: usize, t: &[u16], cells: &[u8], e: usize, q: usize) -> bool
+    requires { ⌜ Known (recipeAt w (now s)) (now t) × (AllStamped (recipeAt w (now s)) (now cells) × ((length (now cells) ≡ 12 * 1024) × Element (recipeAt w (now s)) e q)) ⌝ }
+    ensures { λ r. ⌜ GoneAt (recipeAt w (now (s .entry))) e r ⌝ }
+{
+    if is_marked(cells, e) {
+        return true;
+    }
+    let m = cell(t, q, PARENT);
+    if m == 0 {
+        return false;
+    }
+    let a = cell(t, q, ELEMENT_ORDER);
+    let b = cell(t, m, ELEMENT_ORDER);
+    is_marked(cells, e - a + b)
+}
+
+// Marks the elements of the tree that are gone by 1, and the others by 0.
+pub fn mark_gone(s: &[u8], w: usize, t: &[u16], cells: &[u8], el: &mut [u16], elems: usize)
+    requires { ⌜ Known (recipeAt w (now s)) (now t) × (AllStamped (recipeAt w (now s)) (now cells) × ((length (now cells) ≡ 12 * 1024) × (ElementRows (recipeAt w (now s)) (now el) × (elems ≡ length (treeElements (recipeAt w (now s))))))) ⌝ }
+    ensures { λ _. ⌜ Gones (recipeAt w (now (s .entry))) (now (el .exit)) × Only 2 (now (el .entry)) (now (el .exit)) ⌝ }
+{
+    let mut e = 0;
+    while e < elems {
+        let q = cell(el, 5 * e, RECORD);
+        if is_gone(s, w, t, cells, e, q) {
+            set_cell(el, 5 * e, GONE, 1);
+            e += 1;
+        } else {
+            set_cell(el, 5 * e, GONE, 0);
+            e += 1;
+        }
+    }
+}
+
+// The replaced-by at p has, in some instance of its definition, a target that is gone.
+fn aims_at_gone(s: &[u8], w: usize, p: usize, t: &[u16], inst: &[u16], el: &[u16]) -> bool
+    requires { ⌜ Ready (recipeAt w (now s)) (now t) (now inst) × (In p (places (recipeAt w (now s))) × ((isReplacedBy (recipeAt w (now s)) p ≡ true) × (Gones (recipeAt w (now s)) (now el) × (5 * 1024 ≤ length (now el))))) ⌝ }
+    ensures { λ r. ⌜ r ≡ aimsAtGone (recipeAt w (now (s .entry))) p ⌝ }
+{
+    let e = cell(t, p, TARGET_NUMBER);
+    let h = cell(t, p, DEFINITION_OF);
+    let mut v = cell(t, h, FIRST_INSTANCE);
+    while v != 0 {
+        let row = 6 * (v - 1);
+        let f = cell(inst, row, FIRST_ELEMENT);
+        if cell(el, 5 * (f + e), GONE) != 0 {
+            return true;
+        }
+        v = cell(inst, row, NEXT_SAME);
+    }
+    false
+}
+
+// Row 11: the first replaced-by whose target is gone, in the tree.
+pub fn first_lost(s: &[u8], w: usize, t: &[u16], inst: &[u16], el: &[u16]) -> Found
+    requires { ⌜ Ready (recipeAt w (now s)) (now t) (now inst) × (Gones (recipeAt w (now s)) (now el) × (5 * 1024 ≤ length (now el))) ⌝ }
+    ensures { λ r. ⌜ r ≡ foundOf (fault₁₁ (recipeAt w (now (s .entry)))) ⌝ }
+{
+    let mut p = 0;
+    while p < s.len() {
+        let k = s[p];
+        let next = p + recipe::record_length(k, w);
+        if recipe::is_replaced_by(k) {
+            if aims_at_gone(s, w, p, t, inst, el) {
+                return Found::At(p);
+            }
+            p = next;
+        } else {
+            p = next;
         }
     }
     Found::Nothing
 }
 
 // The step of a replacement or replaced-by: a is its target's number, b its owner's.
-fn put_step(go: &mut [u16; 1024], k: u8, a: usize, b: usize)
-    requires { ⌜ (a < 1024) × (b < 1024) ⌝ }
-    ensures { λ _. ⌜ now (go .exit) ≡ stepped (now (go .entry)) k a b ⌝ }
+fn put_step(el: &mut [u16], k: u8, a: usize, b: usize)
+    requires { ⌜ (5 * 1024 ≤ length (now el)) × ((a < 1024) × (b < 1024)) ⌝ }
+    ensures { λ _. ⌜ now (el .exit) ≡ stepped (now (el .entry)) k a b ⌝ }
 {
     if recipe::is_replaced_by(k) {
-        go[b] = (a + 1) as u16;
+        set_cell(el, 5 * b, CHAIN_NEXT, a + 1);
         return;
     }
-    if !recipe::is_owned(k) {
-        return;
-    }
-    go[a] = (b + 1) as u16;
+    set_cell(el, 5 * a, CHAIN_NEXT, b + 1);
 }
 
 // The steps of the record at p, a replacement or replaced-by, in each instance of its definition.
-fn steps_at(
-    s: &[u8],
-    w: usize,
-    p: usize,
-    hold: &[u16; 16384],
-    rel: &[u16; 16384],
-    own: &[u16; 16384],
-    ord: &[u16; 16384],
-    inst: &[u16; 320],
-    n: usize,
-    go: &mut [u16; 1024],
-)
-    requires { ⌜ Ready (record { width = w; bytes = now s }) (now hold) (now rel) (now own) (now ord) (now inst) n × (In p (places (record { width = w; bytes = now s })) × ((isStep (record { width = w; bytes = now s }) p ≡ true) × (Clear (record { width = w; bytes = now s }) × (Went (record { width = w; bytes = now s }) (λ q. q .place < p) (now go) × (length (now go) ≡ 1024))))) ⌝ }
-    ensures { λ _. ⌜ Went (record { width = w; bytes = now (s .entry) }) (λ q. q .place < next (record { width = w; bytes = now (s .entry) }) p) (now (go .exit)) × (length (now (go .exit)) ≡ 1024) ⌝ }
+fn steps_at(s: &[u8], w: usize, p: usize, t: &[u16], inst: &[u16], el: &mut [u16])
+    requires { ⌜ Ready (recipeAt w (now s)) (now t) (now inst) × (In p (places (recipeAt w (now s))) × ((isOwned (recipeAt w (now s)) p ≡ true) × ((fault₉ (recipeAt w (now s)) ≡ none) × (Went (recipeAt w (now s)) (λ q. q .place < p) (now el) × (5 * 1024 ≤ length (now el)))))) ⌝ }
+    ensures { λ _. ⌜ Went (recipeAt w (now (s .entry))) (λ q. q .place < next (recipeAt w (now (s .entry))) p) (now (el .exit)) × Only 3 (now (el .entry)) (now (el .exit)) ⌝ }
 {
     let k = s[p];
-    let h = hold[p];
-    let e = recipe::wide(rel[p]);
-    let o = entry(ord, recipe::wide(own[p]));
-    let mut i = 0;
-    while i < n {
-        if inst[5 * i] == h {
-            let f = recipe::wide(inst[5 * i + 2]);
-            let d = recipe::wide(inst[5 * i + 1]);
-            put_step(go, k, f + e, f + o);
-            i += 1;
-        } else {
-            i += 1;
-        }
+    let e = cell(t, p, TARGET_NUMBER);
+    let o = owner_order(t, p, k);
+    let h = cell(t, p, DEFINITION_OF);
+    let mut v = cell(t, h, FIRST_INSTANCE);
+    while v != 0 {
+        let row = 6 * (v - 1);
+        let f = cell(inst, row, FIRST_ELEMENT);
+        put_step(el, k, f + e, f + o);
+        v = cell(inst, row, NEXT_SAME);
     }
 }
 
 // The chain's steps: of each element of the tree, one more than the number of the next, or 0.
-pub fn fill_steps(
-    s: &[u8],
-    w: usize,
-    hold: &[u16; 16384],
-    rel: &[u16; 16384],
-    own: &[u16; 16384],
-    ord: &[u16; 16384],
-    inst: &[u16; 320],
-    n: usize,
-    go: &mut [u16; 1024],
-)
-    requires { ⌜ Ready (record { width = w; bytes = now s }) (now hold) (now rel) (now own) (now ord) (now inst) n × (Clear (record { width = w; bytes = now s }) × (now go ≡ replicate 1024 0)) ⌝ }
-    ensures { λ _. ⌜ ((x : Node) → In x (treeElements (record { width = w; bytes = now (s .entry) })) → getD (now (go .exit)) (number (record { width = w; bytes = now (s .entry) }) x) 0 ≡ stepOf (record { width = w; bytes = now (s .entry) }) x) ⌝ }
+pub fn fill_steps(s: &[u8], w: usize, t: &[u16], inst: &[u16], el: &mut [u16])
+    requires { ⌜ Ready (recipeAt w (now s)) (now t) (now inst) × ((fault₉ (recipeAt w (now s)) ≡ none) × (NoSteps (recipeAt w (now s)) (now el) × (5 * 1024 ≤ length (now el)))) ⌝ }
+    ensures { λ _. ⌜ Nexts (recipeAt w (now (s .entry))) (now (el .exit)) × Only 3 (now (el .entry)) (now (el .exit)) ⌝ }
 {
     let mut p = 0;
     while p < s.len() {
         let k = s[p];
+        let next = p + recipe::record_length(k, w);
         if recipe::is_owned(k) {
-            steps_at(s, w, p, hold, rel, own, ord, inst, n, go);
-            p += recipe::record_length(k, w);
+            steps_at(s, w, p, t, inst, el);
+            p = next;
         } else {
-            p += recipe::record_length(k, w);
+            p = next;
         }
     }
 }
 
-// Whether the element of number e is marked as gone, by its cells.
-fn is_marked(t: &[u8; 12288], e: usize) -> bool
-    requires { ⌜ e < 1024 ⌝ }
-    ensures { λ r. ⌜ r ≡ isSet (now (t .entry)) (ownerCell e) || isSet (now (t .entry)) (goneCell e) ⌝ }
-{
-    if t[12 * e] != 0 {
-        return true;
-    }
-    if t[12 * e + 11] != 0 {
-        return true;
-    }
-    false
-}
-
-// Whether the element of number e, at place q, is gone: marked so itself, or a child of one that is.
-pub fn is_gone(
-    s: &[u8],
-    w: usize,
-    e: usize,
-    q: usize,
-    ord: &[u16; 16384],
-    par: &[u16; 16384],
-    t: &[u8; 12288],
-) -> bool
-    requires { ⌜ Marked (record { width = w; bytes = now s }) (now t) (now ord) (now par) × Element (record { width = w; bytes = now s }) e q ⌝ }
-    ensures { λ r. ⌜ GoneAt (record { width = w; bytes = now (s .entry) }) e r ⌝ }
-{
-    if is_marked(t, e) {
-        return true;
-    }
-    let m = recipe::wide(par[q]);
-    if m == 0 {
-        return false;
-    }
-    let a = recipe::wide(ord[q]);
-    let b = recipe::wide(ord[m]);
-    is_marked(t, e - a + b)
-}
-
 // The number of the element at the end of the chain from the element of number e: at most five steps.
-pub fn chain_end(s: &[u8], w: usize, e: usize, go: &[u16; 1024]) -> usize
-    requires { ⌜ (fault₅ (record { width = w; bytes = now s }) ≡ none) × ((fault₇ (record { width = w; bytes = now s }) ≡ none) × (StepsAre (record { width = w; bytes = now s }) (now go) × Numbers (record { width = w; bytes = now s }) e)) ⌝ }
-    ensures { λ r. ⌜ EndsAt (record { width = w; bytes = now (s .entry) }) e r ⌝ }
+pub fn chain_end(el: &[u16], e: usize) -> usize
+    requires { ⌜ Stepping (now el) e ⌝ }
+    ensures { λ r. ⌜ r ≡ followed (now (el .entry)) 5 e ⌝ }
 {
     let mut z = e;
     let mut n = 5usize;
     while n > 0 {
-        let y = recipe::wide(go[z]);
+        let y = cell(el, 5 * z, CHAIN_NEXT);
         if y == 0 {
             return z;
         }
@@ -326,253 +379,112 @@ pub fn chain_end(s: &[u8], w: usize, e: usize, go: &[u16; 1024]) -> usize
     z
 }
 
-// The replaced-by at p has, in some instance of its definition, a target that is gone.
-fn aims_at_gone(
-    s: &[u8],
-    w: usize,
-    p: usize,
-    hold: &[u16; 16384],
-    rel: &[u16; 16384],
-    own: &[u16; 16384],
-    ord: &[u16; 16384],
-    inst: &[u16; 320],
-    n: usize,
-    aims: &[u16; 16384],
-    par: &[u16; 16384],
-    t: &[u8; 12288],
-) -> bool
-    requires { ⌜ Ready (record { width = w; bytes = now s }) (now hold) (now rel) (now own) (now ord) (now inst) n × (In p (places (record { width = w; bytes = now s })) × ((isReplacedBy (record { width = w; bytes = now s }) p ≡ true) × (Marked (record { width = w; bytes = now s }) (now t) (now ord) (now par) × Aims (record { width = w; bytes = now s }) (now aims) (length (now s))))) ⌝ }
-    ensures { λ r. ⌜ r ≡ aimsAtGone (record { width = w; bytes = now (s .entry) }) p ⌝ }
-{
-    let h = hold[p];
-    let e = recipe::wide(rel[p]);
-    let q = recipe::wide(aims[p]);
-    let mut i = 0;
-    while i < n {
-        if inst[5 * i] == h {
-            let f = recipe::wide(inst[5 * i + 2]);
-            if is_gone(s, w, f + e, q, ord, par, t) {
-                return true;
-            }
-            i += 1;
-        } else {
-            i += 1;
-        }
-    }
-    false
-}
-
-// Row 11: the first replaced-by whose target is gone, in the tree.
-pub fn first_lost(
-    s: &[u8],
-    w: usize,
-    hold: &[u16; 16384],
-    rel: &[u16; 16384],
-    own: &[u16; 16384],
-    ord: &[u16; 16384],
-    inst: &[u16; 320],
-    n: usize,
-    aims: &[u16; 16384],
-    par: &[u16; 16384],
-    t: &[u8; 12288],
-) -> Found
-    requires { ⌜ Ready (record { width = w; bytes = now s }) (now hold) (now rel) (now own) (now ord) (now inst) n × (Marked (record { width = w; bytes = now s }) (now t) (now ord) (now par) × Aims (record { width = w; bytes = now s }) (now aims) (length (now s))) ⌝ }
-    ensures { λ r. ⌜ r ≡ foundOf (fault₁₁ (record { width = w; bytes = now (s .entry) })) ⌝ }
-{
-    let mut p = 0;
-    while p < s.len() {
-        let k = s[p];
-        if recipe::is_replaced_by(k) {
-            if aims_at_gone(s, w, p, hold, rel, own, ord, inst, n, aims, par, t) {
-                return Found::At(p);
-            }
-            p += recipe::record_length(k, w);
-        } else {
-            p += recipe::record_length(k, w);
-        }
-    }
-    Found::Nothing
-}
-
-// Enters the element at p, in each instance of its definition: its place, and the number of the instance.
-fn elements_at(
-    s: &[u8],
-    w: usize,
-    p: usize,
-    hold: &[u16; 16384],
-    ord: &[u16; 16384],
-    inst: &[u16; 320],
-    n: usize,
-    place: &mut [u16; 1024],
-    within: &mut [u16; 1024],
-)
-    requires { ⌜ Listable (record { width = w; bytes = now s }) (now hold) (now ord) (now inst) n × (In p (places (record { width = w; bytes = now s })) × ((isElement (record { width = w; bytes = now s }) p ≡ true) × (Listed (record { width = w; bytes = now s }) (λ x. x .place < p) (now place) (now within) × ((length (now place) ≡ 1024) × (length (now within) ≡ 1024))))) ⌝ }
-    ensures { λ _. ⌜ Listed (record { width = w; bytes = now (s .entry) }) (λ x. x .place < next (record { width = w; bytes = now (s .entry) }) p) (now (place .exit)) (now (within .exit)) × ((length (now (place .exit)) ≡ 1024) × (length (now (within .exit)) ≡ 1024)) ⌝ }
-{
-    let h = hold[p];
-    let o = recipe::wide(ord[p]);
-    let mut i = 0;
-    while i < n {
-        if inst[5 * i] == h {
-            let e = recipe::wide(inst[5 * i + 2]) + o;
-            place[e] = p as u16;
-            within[e] = i as u16;
-            i += 1;
-        } else {
-            i += 1;
-        }
-    }
-}
-
-// The elements of the tree by their numbers: the place of each one's record, and the number of its instance.
-pub fn list_elements(
-    s: &[u8],
-    w: usize,
-    hold: &[u16; 16384],
-    ord: &[u16; 16384],
-    inst: &[u16; 320],
-    n: usize,
-    place: &mut [u16; 1024],
-    within: &mut [u16; 1024],
-)
-    requires { ⌜ Listable (record { width = w; bytes = now s }) (now hold) (now ord) (now inst) n × ((length (now place) ≡ 1024) × (length (now within) ≡ 1024)) ⌝ }
-    ensures { λ _. ⌜ Elements (record { width = w; bytes = now (s .entry) }) (now (place .exit)) (now (within .exit)) ⌝ }
-{
-    let mut p = 0;
-    while p < s.len() {
-        let k = s[p];
-        if k == 2 {
-            elements_at(s, w, p, hold, ord, inst, n, place, within);
-            p += recipe::record_length(k, w);
-        } else {
-            p += recipe::record_length(k, w);
-        }
-    }
-}
-
 // The element at p has no reference.
 fn refers_to_none(s: &[u8], w: usize, p: usize) -> bool
-    requires { ⌜ (w ≤ 65536) × ((length (now s) ≤ 16384) × (In p (places (record { width = w; bytes = now s })) × (isElement (record { width = w; bytes = now s }) p ≡ true))) ⌝ }
-    ensures { λ r. ⌜ r ≡ isBlank (referenceField (record { width = w; bytes = now (s .entry) }) p) ⌝ }
+    requires { ⌜ (w ≤ 64) × ((length (now s) ≤ 16384) × (In p (places (recipeAt w (now s))) × (isElement (recipeAt w (now s)) p ≡ true))) ⌝ }
+    ensures { λ r. ⌜ r ≡ isBlank (referenceField (recipeAt w (now (s .entry))) p) ⌝ }
 {
     let a = p + 1 + (w + (1 + w));
     let b = a + w;
     names::is_blank(&s[a..b])
 }
 
-// The element of number z is no fit end of a chain: it is gone, or of a class that a reference of class c must not have.
-fn is_unfit(
-    s: &[u8],
-    w: usize,
-    c: u8,
-    z: usize,
-    ord: &[u16; 16384],
-    par: &[u16; 16384],
-    t: &[u8; 12288],
-    place: &[u16; 1024],
-) -> bool
-    requires { ⌜ Marked (record { width = w; bytes = now s }) (now t) (now ord) (now par) × (PlacesAre (record { width = w; bytes = now s }) (now place) × Numbers (record { width = w; bytes = now s }) z) ⌝ }
-    ensures { λ r. ⌜ UnfitAt (record { width = w; bytes = now (s .entry) }) c z r ⌝ }
+// One more than the number of the end of the chain from the reference of the element of number e, at place p; 0 where it names none.
+fn reference_end(s: &[u8], w: usize, t: &[u16], el: &[u16], e: usize, p: usize) -> usize
+    requires { ⌜ Known (recipeAt w (now s)) (now t) × (ElementRows (recipeAt w (now s)) (now el) × (Nexts (recipeAt w (now s)) (now el) × Element (recipeAt w (now s)) e p)) ⌝ }
+    ensures { λ r. ⌜ EndAt (recipeAt w (now (s .entry))) e r × (r ≤ 1024) ⌝ }
 {
-    let q = recipe::wide(place[z]);
-    let gone = is_gone(s, w, z, q, ord, par, t);
+    let q = cell(t, p, REFERENCE);
+    if q == 0 {
+        return 0;
+    }
+    let a = cell(t, p, ELEMENT_ORDER);
+    let b = cell(t, q, ELEMENT_ORDER);
+    chain_end(el, e - a + b) + 1
+}
+
+// The element of number z is no fit end of a chain: it is gone, or of a class that a reference of class c must not have.
+fn is_unfit(s: &[u8], w: usize, c: u8, z: usize, el: &[u16]) -> bool
+    requires { ⌜ Referring (recipeAt w (now s)) (now el) × Numbers (recipeAt w (now s)) z ⌝ }
+    ensures { λ r. ⌜ UnfitAt (recipeAt w (now (s .entry))) c z r ⌝ }
+{
+    let q = cell(el, 5 * z, RECORD);
+    let gone = cell(el, 5 * z, GONE) != 0;
     gone | !flat_table::reference_allowed(c, s[q + 1 + w])
 }
 
-// The reference of the element at p, in the instance whose first element has the number f, is at fault.
-fn refers_wrongly(
-    s: &[u8],
-    w: usize,
-    p: usize,
-    f: usize,
-    ord: &[u16; 16384],
-    refs: &[u16; 16384],
-    par: &[u16; 16384],
-    t: &[u8; 12288],
-    go: &[u16; 1024],
-    place: &[u16; 1024],
-) -> bool
-    requires { ⌜ Judged (record { width = w; bytes = now s }) (now ord) (now refs) (now par) (now t) (now go) (now place) × Element (record { width = w; bytes = now s }) (f + getD (now ord) p 0) p ⌝ }
-    ensures { λ r. ⌜ FaultAt (record { width = w; bytes = now (s .entry) }) (f + getD (now (ord .entry)) p 0) r ⌝ }
+// The reference of the element of number e is at fault: z is one more than the number of its chain's end, or 0.
+fn refers_wrongly(s: &[u8], w: usize, el: &[u16], e: usize, z: usize) -> bool
+    requires { ⌜ Referring (recipeAt w (now s)) (now el) × (Numbers (recipeAt w (now s)) e × EndAt (recipeAt w (now s)) e z) ⌝ }
+    ensures { λ r. ⌜ FaultAt (recipeAt w (now (s .entry))) e r ⌝ }
 {
+    let p = cell(el, 5 * e, RECORD);
     let c = s[p + 1 + w];
     if refers_to_none(s, w, p) {
         return !flat_table::reference_may_be_blank(c);
     }
-    let q = recipe::wide(refs[p]);
-    if q == 0 {
+    if z == 0 {
         return true;
     }
-    let y = f + recipe::wide(ord[q]);
-    let z = chain_end(s, w, y, go);
-    is_unfit(s, w, c, z, ord, par, t, place)
+    is_unfit(s, w, c, z - 1, el)
 }
 
-// The element at p survives in some instance of its definition, and there its reference is at fault.
-fn misreferred_at(
-    s: &[u8],
-    w: usize,
-    p: usize,
-    hold: &[u16; 16384],
-    ord: &[u16; 16384],
-    inst: &[u16; 320],
-    n: usize,
-    refs: &[u16; 16384],
-    par: &[u16; 16384],
-    t: &[u8; 12288],
-    go: &[u16; 1024],
-    place: &[u16; 1024],
-) -> bool
-    requires { ⌜ References (record { width = w; bytes = now s }) (now hold) (now ord) (now inst) n (now refs) (now par) (now t) (now go) (now place) × (In p (places (record { width = w; bytes = now s })) × (isElement (record { width = w; bytes = now s }) p ≡ true)) ⌝ }
-    ensures { λ r. ⌜ r ≡ misrefers (record { width = w; bytes = now (s .entry) }) p ⌝ }
+// Row 12: the lowest record of a survivor whose reference is at fault; and of each survivor the end of the chain from its reference.
+pub fn first_misreferred(s: &[u8], w: usize, t: &[u16], el: &mut [u16], elems: usize) -> Found
+    requires { ⌜ Known (recipeAt w (now s)) (now t) × (ElementRows (recipeAt w (now s)) (now el) × (Gones (recipeAt w (now s)) (now el) × (Nexts (recipeAt w (now s)) (now el) × (elems ≡ length (treeElements (recipeAt w (now s))))))) ⌝ }
+    ensures { λ r. ⌜ (r ≡ foundOf (fault₁₂ (recipeAt w (now (s .entry))))) × (Ends (recipeAt w (now (s .entry))) (now (el .exit)) × Only 4 (now (el .entry)) (now (el .exit))) ⌝ }
 {
-    let h = hold[p];
-    let o = recipe::wide(ord[p]);
-    let mut i = 0;
-    while i < n {
-        if inst[5 * i] == h {
-            let f = recipe::wide(inst[5 * i + 2]);
-            let gone = is_gone(s, w, f + o, p, ord, par, t);
-            let wrong = refers_wrongly(s, w, p, f, ord, refs, par, t, go, place);
-            if !gone & wrong {
-                return true;
-            }
-            i += 1;
+    let mut best = s.len();
+    let mut e = 0;
+    while e < elems {
+        if cell(el, 5 * e, GONE) != 0 {
+            e += 1;
         } else {
-            i += 1;
+            let p = cell(el, 5 * e, RECORD);
+            let z = reference_end(s, w, t, el, e, p);
+            set_cell(el, 5 * e, REFERENCE_END, z);
+            if refers_wrongly(s, w, el, e, z) & (p < best) {
+                best = p;
+                e += 1;
+            } else {
+                e += 1;
+            }
         }
     }
-    false
-}
-
-// Row 12: the first element record of a survivor whose reference is at fault.
-pub fn first_misreferred(
-    s: &[u8],
-    w: usize,
-    hold: &[u16; 16384],
-    ord: &[u16; 16384],
-    inst: &[u16; 320],
-    n: usize,
-    refs: &[u16; 16384],
-    par: &[u16; 16384],
-    t: &[u8; 12288],
-    go: &[u16; 1024],
-    place: &[u16; 1024],
-) -> Found
-    requires { ⌜ References (record { width = w; bytes = now s }) (now hold) (now ord) (now inst) n (now refs) (now par) (now t) (now go) (now place) ⌝ }
-    ensures { λ r. ⌜ r ≡ foundOf (fault₁₂ (record { width = w; bytes = now (s .entry) })) ⌝ }
-{
-    let mut p = 0;
-    while p < s.len() {
-        let k = s[p];
-        if k == 2 {
-            if misreferred_at(s, w, p, hold, ord, inst, n, refs, par, t, go, place) {
-                return Found::At(p);
-            }
-            p += recipe::record_length(k, w);
-        } else {
-            p += recipe::record_length(k, w);
-        }
+    if best < s.len() {
+        return Found::At(best);
     }
     Found::Nothing
+}
+
+// Rows 9 to 12 in order; where none applies, the elements of the tree as rows, all columns filled.
+pub fn judge_marks(
+    s: &[u8],
+    w: usize,
+    t: &[u16],
+    inst: &[u16],
+    el: &mut [u16],
+    n: usize,
+    elems: usize,
+) -> Refusal
+    requires { ⌜ Targeted (recipeAt w (now s)) (now t) (now inst) n × ((elems ≡ length (treeElements (recipeAt w (now s)))) × (5 * 1024 ≤ length (now el))) ⌝ }
+    ensures { λ r. ⌜ (r ≡ handed (judged (markRows (recipeAt w (now (s .entry))) ++ referenceRows (recipeAt w (now (s .entry)))))) × (r .number ≡ 0 → Composed (recipeAt w (now (s .entry))) (now (t .entry)) (now (inst .entry)) (now (el .exit)) n elems) ⌝ }
+{
+    let mut cells = [0u8; CELLS];
+    if let Found::At(p) = first_conflict(s, w, t, inst, &mut cells) {
+        return names::refuse(9, p);
+    }
+    if let Found::At(p) = tree::first_misclassed(s, w, t) {
+        return names::refuse(10, p);
+    }
+    list_elements(s, w, t, inst, el);
+    mark_gone(s, w, t, &cells, el, elems);
+    if let Found::At(p) = first_lost(s, w, t, inst, el) {
+        return names::refuse(11, p);
+    }
+    fill_steps(s, w, t, inst, el);
+    if let Found::At(p) = first_misreferred(s, w, t, el, elems) {
+        return names::refuse(12, p);
+    }
+    names::refuse(0, 0)
 }

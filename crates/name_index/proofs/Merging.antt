@@ -5,25 +5,20 @@ use mathlib.Core.List.{List, [], _∷_, _++_, append-nil}
 use Prim.Native.Nat.{ℕ, zero, suc, _+_, _-_, _*_, _<_, _≤_}
 use native.Mathlib.Omega.{arith}
 use native.Mathlib.Numerals.{add-one}
-use native.Mathlib.Nat.{add-sub-cancel-left, mul-le-mul-right, add-zero}
+use native.Mathlib.Nat.{mul-le-mul-right, add-zero}
 use lib.ListN.{length, getD, take, drop, set, length-set, length-take, length-drop, length-append, drop-of-length-le}
 use lib.Seq.{drop-cons, take-suc-set, append-snoc, sets, sets-eq, getD-take, getD-drop, take-all, length-take-le, take-at, drop-at}
 use lib.Dec.{ltb}
 use borrow.Author.Tests.{ltb-true, ltb-false}
 use Rattle.name_index.specs.declared.Layout.{Layout}
 use Rattle.names.specs.Order.{before}
-use Rattle.name_index.specs.Index.{nameOf, Whole, Keyed, Below, insert, ordered}
+use Rattle.name_index.specs.Index.{Whole, Keyed, Below, insert, ordered}
 use Rattle.name_index.specs.Steps.{between, merged, nextRight}
 use borrow.Rule.Slice.PartMut.{putMid}
 use Rattle.names.proofs.Tests.{by-cases, not-both}
 use Rattle.name_index.proofs.Sorted.{ordered-length, ordered-below, ordered-merged, ordered-joined}
 
 -- ---- a name's place: the one product of two variables, and the law that bounds it
-pub name-is : (s : List ℕ) (l : Layout) (p : ℕ)
-    → take (p * l .stride + l .first + l .width - (p * l .stride + l .first)) (drop (p * l .stride + l .first) s) ≡ nameOf s l p
-unfolding nameOf
-name-is s l p = ap (λ (n : ℕ). take n (drop (p * l .stride + l .first) s)) (add-sub-cancel-left (p * l .stride + l .first) (l .width))
-
 pub whole-below : {s : List ℕ} {l : Layout} {n p : ℕ} → Whole s l n → p < n → Whole s l (p + 1)
 whole-below {s} {l} {n} {p} w h =
     let m : (p + 1) * l .stride ≤ n * l .stride = mul-le-mul-right (l .stride) (omega arith) in

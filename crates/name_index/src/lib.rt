@@ -19,6 +19,16 @@ pub struct Layout {
     pub width: usize,
 }
 
+// The most records that an index has.
+const MOST_RECORDS: usize = 1536;
+
+// What the low and the high half of a hash's state stay below, and what each is multiplied by.
+const HALF: u64 = 4294967296;
+
+const LOW_FACTOR: u64 = 668265263;
+
+const HIGH_FACTOR: u64 = 374761393;
+
 // Four bytes as a number.
 fn four(f: &[u8], i: usize) -> u64
     requires { ⌜ i + 4 ≤ length (now f) ⌝ }
@@ -31,7 +41,7 @@ fn mix(h: u64, low: u64, high: u64) -> u64
     requires { ⌜ (low < 4294967296) × (high < 4294967296) ⌝ }
     ensures { λ r. ⌜ r ≡ mixed h low high ⌝ }
 {
-    (h % 4294967296 + low) * 668265263 + (h / 4294967296 + high) * 374761393
+    (h % HALF + low) * LOW_FACTOR + (h / HALF + high) * HIGH_FACTOR
 }
 
 // The state after the whole eights of a name.
@@ -55,7 +65,7 @@ pub fn hash(f: &[u8]) -> u32
     if n < 8 {
         return 0;
     }
-    (mix(mix_eights(f), four(f, n - 8), four(f, n - 4)) % 4294967296) as u32
+    (mix(mix_eights(f), four(f, n - 8), four(f, n - 4)) % HALF) as u32
 }
 
 // The name of the record at position p.
@@ -63,9 +73,7 @@ fn name_at(bytes: &[u8], l: Layout, p: usize) -> &[u8]
     requires { ⌜ Whole (now bytes) l (p + 1) ⌝ }
     ensures { λ r. ⌜ now r ≡ nameOf (now (bytes .entry)) l p ⌝ }
 {
-    let at = p * l.stride + l.first;
-    let end = at + l.width;
-    &bytes[at..end]
+    names::field_at(bytes, p * l.stride + l.first, l.width)
 }
 
 // Writes the numbers of the first n names into the first n places.
@@ -230,7 +238,7 @@ pub fn build(bytes: &[u8], l: Layout, n: usize, keys: &[u32], index: &mut [u16])
     requires { ⌜ Keyed (now keys) (now bytes) l n × ((n ≤ length (now index)) × (n ≤ 1536)) ⌝ }
     ensures { λ r. ⌜ now (index .exit) ≡ ordered (keyedName (now (keys .entry)) (now (bytes .entry)) l) 0 n ++ drop n (now (index .entry)) ⌝ }
 {
-    let mut other = [0u16; 1536];
+    let mut other = [0u16; MOST_RECORDS];
     sort(bytes, l, n, keys, 0, &mut index[..n], &mut other);
 }
 

@@ -10,10 +10,9 @@ use lib.Seq.{take-all, drop-append-seam}
 use lib.Dec.{eqb}
 use borrow.Author.Tests.{eq-eqb, ne-eqb, eqb-true, eqb-false}
 use Rattle.names.specs.Lists.{every, keepWhile, same, padded}
-use Rattle.names.specs.Names.{isLetter, isDigit, underscore, isFirst, isOther, nonZero, areNameCharacters, text, isBlank, isName, isNameOrBlank, fieldOf, optionalOf, fieldAt}
+use Rattle.names.specs.Names.{isLetter, isDigit, underscore, isFirst, isOther, nonZero, areNameCharacters, text, isBlank, isName, isNameOrBlank, fieldOf, fieldAt}
 use Rattle.names.specs.declared.Field.{Field}
 use Rattle.names.specs.declared.Field.the-variants.{Name, Blank, Neither}
-use Rattle.names.specs.declared.Optional.the-variants.{Holds, Refused}
 use types.Run.{OneOf, miss}
 use denote.Enum.Declared.{tagOf}
 use Rattle.names.proofs.Field.{the-type}
@@ -186,15 +185,7 @@ module _ (f : List ℕ) {n : ℕ} (e : n ≡ length (keepWhile isOther f)) {z : 
   unfolding fieldOf
   field-digit m p q = rw (no-name f (sym p ∙ q), blank-run f (λ u. m (long ∙ u)))
 
--- ---- a field that may be blank
-pub optional-named : (f : List ℕ) {n : ℕ} → Name n ≡ fieldOf f → Holds n ≡ optionalOf f
-unfolding fieldOf optionalOf isNameOrBlank
-optional-named f {n} e =
-    by-cases (isName f)
-    (λ h. let k : Name n ≡ Name (length (text f)) = rw h at e in let m : n ≡ length (text f) = cc in rw (h, m))
-    (λ h. by-cases (isBlank f) (λ b. let k : Name n ≡ Blank = rw (h, b) at e in let z : _≡_ {A = ℕ} 0 1 = cc in absurd (omega arith))
-    (λ b. let k : Name n ≡ Neither = rw (h, b) at e in let z : _≡_ {A = ℕ} 0 1 = cc in absurd (omega arith)))
-
+-- ---- blanks
 pub blank-text : (f : List ℕ) → isBlank f ≡ true → text f ≡ []
 unfolding isBlank text
 blank-text [] e = refl
@@ -202,22 +193,6 @@ blank-text (x ∷ xs) e =
     by-cases (eqb x 0)
     (λ h. text-zero x xs (eqb-true x 0 h))
     (λ h. not-both e (every-off (eqb 0) x xs (ne-eqb 0 x (λ q. eqb-false x 0 h (sym q)))))
-
-pub optional-blank : (f : List ℕ) → Blank ≡ fieldOf f → Holds 0 ≡ optionalOf f
-unfolding fieldOf optionalOf isNameOrBlank
-optional-blank f e =
-    by-cases (isName f)
-    (λ h. let k : Blank ≡ Name (length (text f)) = rw h at e in let z : _≡_ {A = ℕ} 0 1 = cc in absurd (omega arith))
-    (λ h. by-cases (isBlank f) (λ b. rw (h, b, blank-text f b))
-    (λ b. let k : Blank ≡ Neither = rw (h, b) at e in let z : _≡_ {A = ℕ} 0 1 = cc in absurd (omega arith)))
-
-pub optional-refused : (f : List ℕ) → Neither ≡ fieldOf f → Refused ≡ optionalOf f
-unfolding fieldOf optionalOf isNameOrBlank
-optional-refused f e =
-    by-cases (isName f)
-    (λ h. let k : Neither ≡ Name (length (text f)) = rw h at e in let z : _≡_ {A = ℕ} 0 1 = cc in absurd (omega arith))
-    (λ h. by-cases (isBlank f) (λ b. let k : Neither ≡ Blank = rw (h, b) at e in let z : _≡_ {A = ℕ} 0 1 = cc in absurd (omega arith))
-    (λ b. rw (h, b)))
 
 -- ---- what a reader's answer says of the field
 pub is-name : (f : List ℕ) {n : ℕ} → Name n ≡ fieldOf f → isName f ≡ true
@@ -235,18 +210,20 @@ is-no-name f {r} e k =
     (λ h. let q : r ≡ Name (length (text f)) = e ∙ rw h in absurd (miss (1 ∷ 2 ∷ []) 0 tt (subst (λ (x : Field). OneOf (1 ∷ 2 ∷ []) (tagOf the-type x)) q k)))
     (λ h. h)
 
-pub is-optional : (f : List ℕ) {n : ℕ} → Holds n ≡ optionalOf f → isNameOrBlank f ≡ true
-unfolding optionalOf
-is-optional f {n} e =
-    by-cases (isNameOrBlank f) (λ h. h)
-    (λ h. let k : Holds n ≡ Refused = rw h at e in let z : _≡_ {A = ℕ} 0 1 = cc in absurd (omega arith))
+pub is-optional : (f : List ℕ) {r : Field} → r ≡ fieldOf f → OneOf (0 ∷ 1 ∷ []) (tagOf the-type r) → isNameOrBlank f ≡ true
+unfolding fieldOf isNameOrBlank
+is-optional f {r} e k =
+    by-cases (isName f) (λ h. rw h)
+    (λ h. by-cases (isBlank f) (λ b. rw (h, b))
+    (λ b. let q : r ≡ Neither = e ∙ rw (h, b) in absurd (miss (0 ∷ 1 ∷ []) 2 tt (subst (λ (x : Field). OneOf (0 ∷ 1 ∷ []) (tagOf the-type x)) q k))))
 
-pub is-not-optional : (f : List ℕ) → Refused ≡ optionalOf f → isNameOrBlank f ≡ false
-unfolding optionalOf
+pub is-not-optional : (f : List ℕ) → Neither ≡ fieldOf f → isNameOrBlank f ≡ false
+unfolding fieldOf isNameOrBlank
 is-not-optional f e =
-    by-cases (isNameOrBlank f)
-    (λ h. let k : Refused ≡ Holds (length (text f)) = rw h at e in let z : _≡_ {A = ℕ} 0 1 = cc in absurd (omega arith))
-    (λ h. h)
+    by-cases (isName f)
+    (λ h. let k : Neither ≡ Name (length (text f)) = rw h at e in let z : _≡_ {A = ℕ} 0 1 = cc in absurd (omega arith))
+    (λ h. by-cases (isBlank f) (λ b. let k : Neither ≡ Blank = rw (h, b) at e in let z : _≡_ {A = ℕ} 0 1 = cc in absurd (omega arith))
+    (λ b. rw (h, b)))
 
 -- the part of a slice between two offsets, as the field there
 pub field-is : (w : ℕ) (t : List ℕ) (at : ℕ) → take (at + w - at) (drop at t) ≡ fieldAt w t at

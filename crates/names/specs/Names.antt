@@ -7,8 +7,6 @@ use lib.Dec.{leb, eqb}
 use Rattle.names.specs.Lists.{every, keepWhile}
 use Rattle.names.specs.declared.Field.{Field}
 use Rattle.names.specs.declared.Field.the-variants.{Name, Blank, Neither}
-use Rattle.names.specs.declared.Optional.{Optional}
-use Rattle.names.specs.declared.Optional.the-variants.{Holds, Refused}
 
 -- an ASCII letter
 unfoldable pub isLetter : ℕ → Bool
@@ -58,10 +56,6 @@ isNameOrBlank f = isName f || isBlank f
 -- what a field reads as: a name and its length, a blank, or neither
 unfoldable pub fieldOf : List ℕ → Field
 fieldOf f = cond (isName f) (Name (length (text f))) (cond (isBlank f) Blank Neither)
-
--- what a field that may be blank reads as: its name's length, which is 0 of a blank, or nothing
-unfoldable pub optionalOf : List ℕ → Optional
-optionalOf f = cond (isNameOrBlank f) (Holds (length (text f))) Refused
 
 -- the w bytes from offset p
 unfoldable pub fieldAt : ℕ → List ℕ → ℕ → List ℕ

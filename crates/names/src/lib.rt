@@ -1,11 +1,11 @@
 // Name fields of any width: a name and zeros behind it, or zeros alone. They are read, compared, copied and cut here, and nowhere else.
-// Public calls: read_field, read_optional, is_blank, is_same, comes_before, unpadded, refuse. None of them requires anything. For the floors above: put_bytes.
+// Public calls: read_field, is_name, is_optional, is_blank, is_same, comes_before, unpadded, refuse. None of them requires anything. For the floors above: field_at, put_bytes.
 ghost use mathlib.Core.Path.{_≡_};
 ghost use Prim.Native.Nat.{_+_, _≤_};
 ghost use lib.ListN.{length, take, drop};
 ghost use lib.Seq.{sets};
 ghost use Rattle.names.specs.Lists.{same, keepWhile};
-ghost use Rattle.names.specs.Names.{isFirst, isOther, isBlank, text, fieldOf, optionalOf};
+ghost use Rattle.names.specs.Names.{isFirst, isOther, isBlank, isName, isNameOrBlank, text, fieldOf, fieldAt};
 ghost use Rattle.names.specs.Order.{before};
 ghost use Rattle.names.specs.Judging.{refusalAt};
 ghost use Rattle.names.specs.Runs.{otherAt, sameAt, eight, Passed, Run};
@@ -29,10 +29,13 @@ pub enum Field {
     Neither,
 }
 
-// What a field that may be blank reads as: the length of its name, 0 of a blank; or it is refused.
-pub enum Optional {
-    Holds(usize),
-    Refused,
+// The w bytes from `at` on.
+pub fn field_at(bytes: &[u8], at: usize, w: usize) -> &[u8]
+    requires { ⌜ at + w ≤ length (now bytes) ⌝ }
+    ensures { λ r. ⌜ now r ≡ fieldAt w (now (bytes .entry)) at ⌝ }
+{
+    let end = at + w;
+    &bytes[at..end]
 }
 
 fn is_first(b: u8) -> bool
@@ -203,15 +206,24 @@ pub fn read_field(f: &[u8]) -> Field
     Field::Neither
 }
 
-// What a field that may be blank reads as.
-pub fn read_optional(f: &[u8]) -> Optional
-    ensures { λ r. ⌜ r ≡ optionalOf (now (f .entry)) ⌝ }
+// Whether a field is a name.
+pub fn is_name(f: &[u8]) -> bool
+    ensures { λ r. ⌜ r ≡ isName (now (f .entry)) ⌝ }
 {
-    match read_field(f) {
-        Field::Name(n) => Optional::Holds(n),
-        Field::Blank => Optional::Holds(0),
-        Field::Neither => Optional::Refused,
-    }
+    let Field::Name(_) = read_field(f) else {
+        return false;
+    };
+    true
+}
+
+// Whether a field is a name or blank.
+pub fn is_optional(f: &[u8]) -> bool
+    ensures { λ r. ⌜ r ≡ isNameOrBlank (now (f .entry)) ⌝ }
+{
+    let Field::Neither = read_field(f) else {
+        return true;
+    };
+    false
 }
 
 // The part of a field before the padding: a part of the caller's bytes, and no copy.

@@ -13,7 +13,7 @@ use Rattle.names.specs.Names.{text, isName, isBlank, isNameOrBlank, fieldOf, fi
 use Rattle.names.specs.declared.Field.the-variants.{Name, Blank, Neither}
 use Rattle.names.proofs.Tests.{by-cases, or-left}
 use Rattle.names.proofs.Lists.{while-length, take-while}
-use Rattle.names.proofs.Names.{is-name, field-is, some-character, name-characters}
+use Rattle.names.proofs.Names.{is-name, some-character, name-characters}
 use Rattle.flat_table.specs.Classes.{isClass}
 use Rattle.recipe.specs.Records.{Recipe, places, partOffset, submodelPart, portKind, markKind, pointerKind, deletionKind, replacedByKind, isMark, isReplacedBy, recordLength, kind, next, isReadable, isModel, isElement, isPort, isSubmodel, isDeletion, isReplacement, field, byte, firstField, name, class, parentField, referenceField, modelField, submodelOffset, submodelField, way, targetField}
 use Rattle.recipe.specs.Reading.{endsWithUnderscore, isWay, isForm, fault₃}
@@ -333,11 +333,6 @@ module _ (s : Recipe) (p : ℕ) where
         pub mark-read : {t : Way} → Named t ≡ targetReading s p → Marks (record { owner = p + 1; submodel = p + 1 + k; target = t }) ≡ markReading s p
         unfolding markReading markFields
         mark-read {t} h = let r = target-named h in rw (mark-end ∙ r .0, r .1, ← begins)
-
--- ---- a part of the recipe, as the field there
-pub field-part : (w : ℕ) (t : List ℕ) (p k : ℕ) → take (p + 1 + k + w - (p + 1 + k)) (drop (p + 1 + k) t) ≡ field (record { width = w; bytes = t }) p k
-unfolding field
-field-part w t p k = field-is w t (p + 1 + k)
 
 -- ---- what the answer says of the form
 module _ (s : Recipe) (p : ℕ) where

@@ -12,6 +12,10 @@ pub record Recipe : Type 0 where
   pub width : ℕ
   pub bytes : List ℕ
 
+-- the recipe of these bytes and this width
+abbrev pub recipeAt : ℕ → List ℕ → Recipe
+recipeAt w b = record { width = w; bytes = b }
+
 -- what a part of a body is
 pub data Part : Type 0 where
   -- a name: "name", "model", "submodel", "owner", "target"

@@ -5,14 +5,13 @@ ghost use mathlib.Core.Path.{_≡_};
 ghost use mathlib.Core.Bool.{true};
 ghost use Prim.Native.Nat.{ℕ, _+_, _*_, _<_, _≤_};
 ghost use lib.ListN.{length};
-ghost use Rattle.names.specs.Names.{fieldOf, optionalOf};
+ghost use Rattle.names.specs.Names.{fieldOf};
 ghost use Rattle.names.specs.Scans.{foundOf};
-ghost use Rattle.recipe.specs.Records.{Recipe, isKnown, recordLength, portKind, deletionKind, replacedByKind, ownedKind, markKind, pointerKind, submodelPart, partOffset, isReadable, stop, field};
+ghost use Rattle.recipe.specs.Records.{recipeAt, isKnown, recordLength, portKind, deletionKind, replacedByKind, ownedKind, markKind, pointerKind, submodelPart, partOffset, isReadable, stop, field};
 ghost use Rattle.recipe.specs.Reading.{fault₁, fault₃};
 ghost use Rattle.recipe.specs.Fields.{TargetAt, RecordAt, MarkAt, targetReading, markReading, readingOf};
 use names::Field;
 use names::Found;
-use names::Optional;
 
 // How a target is named: by element name or by port name, with the offset of that name in the recipe.
 pub enum Way {
@@ -77,6 +76,9 @@ pub enum Read {
     Refused,
 }
 
+// The most bytes of a recipe.
+const MOST_BYTES: usize = 16384;
+
 // A number of the tables, as a place or a count.
 pub fn wide(x: u16) -> usize
     ensures { λ r. ⌜ (r ≡ x) × (r < 65536) ⌝ }
@@ -86,9 +88,9 @@ pub fn wide(x: u16) -> usize
 
 // Whether row 1 refuses the recipe, at its start: it is empty, or over 16,384 bytes. The name width does not matter.
 pub fn length_fault(s: &[u8]) -> Found
-    ensures { λ r. ⌜ ((w : ℕ) → r ≡ foundOf (fault₁ (record { width = w; bytes = now (s .entry) }))) ⌝ }
+    ensures { λ r. ⌜ ((w : ℕ) → r ≡ foundOf (fault₁ (recipeAt w (now (s .entry))))) ⌝ }
 {
-    if (s.len() == 0) | (16384 < s.len()) {
+    if (s.len() == 0) | (MOST_BYTES < s.len()) {
         return Found::At(0);
     }
     Found::Nothing
@@ -171,7 +173,7 @@ pub fn submodel_offset(k: u8, w: usize) -> usize
 // Whether the record at p is whole, of a known kind, and of kind 1 if it is the first: row 2 does not refuse it.
 pub fn is_readable(s: &[u8], w: usize, p: usize) -> bool
     requires { ⌜ w ≤ 65536 ⌝ }
-    ensures { λ r. ⌜ r ≡ isReadable (record { width = w; bytes = now (s .entry) }) p ⌝ }
+    ensures { λ r. ⌜ r ≡ isReadable (recipeAt w (now (s .entry))) p ⌝ }
 {
     if p >= s.len() {
         return false;
@@ -193,7 +195,7 @@ pub fn is_readable(s: &[u8], w: usize, p: usize) -> bool
 // Where the reading of a recipe stops: at its end, or at the first record that row 2 refuses.
 pub fn reading_stop(s: &[u8], w: usize) -> usize
     requires { ⌜ w ≤ 65536 ⌝ }
-    ensures { λ r. ⌜ r ≡ stop (record { width = w; bytes = now (s .entry) }) ⌝ }
+    ensures { λ r. ⌜ r ≡ stop (recipeAt w (now (s .entry))) ⌝ }
 {
     let mut p = 0;
     while is_readable(s, w, p) {
@@ -205,27 +207,15 @@ pub fn reading_stop(s: &[u8], w: usize) -> usize
 // What the name field k bytes into the body of the record at p reads as.
 fn field_at(s: &[u8], w: usize, p: usize, k: usize) -> Field
     requires { ⌜ p + 1 + k + w ≤ length (now s) ⌝ }
-    ensures { λ r. ⌜ r ≡ fieldOf (field (record { width = w; bytes = now (s .entry) }) p k) ⌝ }
+    ensures { λ r. ⌜ r ≡ fieldOf (field (recipeAt w (now (s .entry))) p k) ⌝ }
 {
-    let at = p + 1 + k;
-    let end = at + w;
-    names::read_field(&s[at..end])
-}
-
-// What that field reads as, where it may be blank.
-fn optional_at(s: &[u8], w: usize, p: usize, k: usize) -> Optional
-    requires { ⌜ p + 1 + k + w ≤ length (now s) ⌝ }
-    ensures { λ r. ⌜ r ≡ optionalOf (field (record { width = w; bytes = now (s .entry) }) p k) ⌝ }
-{
-    let at = p + 1 + k;
-    let end = at + w;
-    names::read_optional(&s[at..end])
+    names::read_field(names::field_at(s, p + 1 + k, w))
 }
 
 // The way and the target of the port or mark at p, whose submodel begins k bytes into its body.
 fn read_target(s: &[u8], w: usize, p: usize, k: usize) -> Target
-    requires { ⌜ TargetAt (record { width = w; bytes = now s }) p k ⌝ }
-    ensures { λ r. ⌜ r ≡ targetReading (record { width = w; bytes = now (s .entry) }) p ⌝ }
+    requires { ⌜ TargetAt (recipeAt w (now s)) p k ⌝ }
+    ensures { λ r. ⌜ r ≡ targetReading (recipeAt w (now (s .entry))) p ⌝ }
 {
     let b = s[p + 1 + (k + w)];
     if b > 1 {
@@ -242,8 +232,8 @@ fn read_target(s: &[u8], w: usize, p: usize, k: usize) -> Target
 }
 
 fn read_model(s: &[u8], w: usize, p: usize) -> Read
-    requires { ⌜ RecordAt (record { width = w; bytes = now s }) p 1 (1 + w) ⌝ }
-    ensures { λ r. ⌜ r ≡ readingOf (record { width = w; bytes = now (s .entry) }) p ⌝ }
+    requires { ⌜ RecordAt (recipeAt w (now s)) p 1 (1 + w) ⌝ }
+    ensures { λ r. ⌜ r ≡ readingOf (recipeAt w (now (s .entry))) p ⌝ }
 {
     let Field::Name(_) = field_at(s, w, p, 0) else {
         return Read::Refused;
@@ -252,8 +242,8 @@ fn read_model(s: &[u8], w: usize, p: usize) -> Read
 }
 
 fn read_element(s: &[u8], w: usize, p: usize) -> Read
-    requires { ⌜ RecordAt (record { width = w; bytes = now s }) p 2 (2 + 3 * w) ⌝ }
-    ensures { λ r. ⌜ r ≡ readingOf (record { width = w; bytes = now (s .entry) }) p ⌝ }
+    requires { ⌜ RecordAt (recipeAt w (now s)) p 2 (2 + 3 * w) ⌝ }
+    ensures { λ r. ⌜ r ≡ readingOf (recipeAt w (now (s .entry))) p ⌝ }
 {
     let Field::Name(_) = field_at(s, w, p, 0) else {
         return Read::Refused;
@@ -262,10 +252,10 @@ fn read_element(s: &[u8], w: usize, p: usize) -> Read
     if !flat_table::is_class(class) {
         return Read::Refused;
     }
-    let Optional::Holds(_) = optional_at(s, w, p, w + 1) else {
+    let (Field::Name(_) | Field::Blank) = field_at(s, w, p, w + 1) else {
         return Read::Refused;
     };
-    let Optional::Holds(_) = optional_at(s, w, p, w + (1 + w)) else {
+    let (Field::Name(_) | Field::Blank) = field_at(s, w, p, w + (1 + w)) else {
         return Read::Refused;
     };
     Read::As(Record::Element(ElementFields {
@@ -277,13 +267,13 @@ fn read_element(s: &[u8], w: usize, p: usize) -> Read
 }
 
 fn read_port(s: &[u8], w: usize, p: usize) -> Read
-    requires { ⌜ RecordAt (record { width = w; bytes = now s }) p 3 (2 + 3 * w) ⌝ }
-    ensures { λ r. ⌜ r ≡ readingOf (record { width = w; bytes = now (s .entry) }) p ⌝ }
+    requires { ⌜ RecordAt (recipeAt w (now s)) p 3 (2 + 3 * w) ⌝ }
+    ensures { λ r. ⌜ r ≡ readingOf (recipeAt w (now (s .entry))) p ⌝ }
 {
     let Field::Name(_) = field_at(s, w, p, 0) else {
         return Read::Refused;
     };
-    let Optional::Holds(_) = optional_at(s, w, p, w) else {
+    let (Field::Name(_) | Field::Blank) = field_at(s, w, p, w) else {
         return Read::Refused;
     };
     let Target::Named(way) = read_target(s, w, p, w) else {
@@ -298,8 +288,8 @@ fn read_port(s: &[u8], w: usize, p: usize) -> Read
 
 // A submodel, whose name may not end with an underscore.
 fn read_submodel(s: &[u8], w: usize, p: usize) -> Read
-    requires { ⌜ RecordAt (record { width = w; bytes = now s }) p 4 (1 + 2 * w) ⌝ }
-    ensures { λ r. ⌜ r ≡ readingOf (record { width = w; bytes = now (s .entry) }) p ⌝ }
+    requires { ⌜ RecordAt (recipeAt w (now s)) p 4 (1 + 2 * w) ⌝ }
+    ensures { λ r. ⌜ r ≡ readingOf (recipeAt w (now (s .entry))) p ⌝ }
 {
     let Field::Name(n) = field_at(s, w, p, 0) else {
         return Read::Refused;
@@ -318,8 +308,8 @@ fn read_submodel(s: &[u8], w: usize, p: usize) -> Read
 
 // The mark at p, of kind k.
 fn read_mark(s: &[u8], w: usize, p: usize, k: u8) -> Marked
-    requires { ⌜ MarkAt (record { width = w; bytes = now s }) p k ⌝ }
-    ensures { λ r. ⌜ r ≡ markReading (record { width = w; bytes = now (s .entry) }) p ⌝ }
+    requires { ⌜ MarkAt (recipeAt w (now s)) p k ⌝ }
+    ensures { λ r. ⌜ r ≡ markReading (recipeAt w (now (s .entry))) p ⌝ }
 {
     let o = submodel_offset(k, w);
     let Field::Name(_) = field_at(s, w, p, 0) else {
@@ -340,8 +330,8 @@ fn read_mark(s: &[u8], w: usize, p: usize, k: u8) -> Marked
 
 // The record at p, which row 2 does not refuse.
 pub fn read_record(s: &[u8], w: usize, p: usize) -> Read
-    requires { ⌜ isReadable (record { width = w; bytes = now s }) p ≡ true ⌝ }
-    ensures { λ r. ⌜ r ≡ readingOf (record { width = w; bytes = now (s .entry) }) p ⌝ }
+    requires { ⌜ isReadable (recipeAt w (now s)) p ≡ true ⌝ }
+    ensures { λ r. ⌜ r ≡ readingOf (recipeAt w (now (s .entry))) p ⌝ }
 {
     let k = s[p];
     if k == 1 {
@@ -373,8 +363,8 @@ pub fn read_record(s: &[u8], w: usize, p: usize) -> Read
 
 // The first record that row 3 refuses.
 pub fn first_unformed(s: &[u8], w: usize) -> Found
-    requires { ⌜ (w ≤ 65536) × (stop (record { width = w; bytes = now s }) ≡ length (now s)) ⌝ }
-    ensures { λ r. ⌜ r ≡ foundOf (fault₃ (record { width = w; bytes = now (s .entry) })) ⌝ }
+    requires { ⌜ (w ≤ 65536) × (stop (recipeAt w (now s)) ≡ length (now s)) ⌝ }
+    ensures { λ r. ⌜ r ≡ foundOf (fault₃ (recipeAt w (now (s .entry)))) ⌝ }
 {
     let mut p = 0;
     while p < s.len() {

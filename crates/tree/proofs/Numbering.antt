@@ -17,8 +17,9 @@ use Rattle.names.proofs.ListOrder.{Rising, keep-rising, rising-in}
 use Rattle.recipe.specs.Definitions.{elements, holder, main, modelOf, recordsOf, submodels}
 use Rattle.recipe.specs.Records.{Recipe, isElement, isModel, isSubmodel, places}
 use Rattle.recipe.proofs.Reading.{places-rise}
+use Rattle.shadow.specs.Columns.{order, upTo}
 use Rattle.tree.specs.Faults.{fault₇, mostElements}
-use Rattle.tree.specs.Numbers.{ahead, firstAt, firstBelow, number, order, run, total, upTo, weight, weightIn}
+use Rattle.tree.specs.Numbers.{ahead, firstAt, firstBelow, number, run, total, weight, weightIn}
 use Rattle.tree.specs.Tree.{Node, Submodels, definitionAt, definitionBelow, instances, mostDepth, node, nodes, pathsBelow, treeElements}
 use Rattle.tree.proofs.Instances.{at-most-four, elements-most}
 

@@ -1,10 +1,10 @@
--- Resolving a reference and a port: what each way through says.
+-- Resolving a port or mark: the record that it names, and what follows of its target.
 -- Assumes nothing.
-use Prim.Native.Nat.{_*_, _+_, _-_, _<_, _≤_, suc, zero, ℕ}
+use Prim.Native.Nat.{_+_, _<_, _≤_, suc, ℕ}
 use borrow.Author.Tests.{eqb-true, not-false, not-true}
 use lib.Dec.{eqb}
 use lib.ListN.{getD, length}
-use mathlib.Core.Bool.{Bool, _&&_, _||_, false, not, true}
+use mathlib.Core.Bool.{_&&_, _||_, false, not, true}
 use mathlib.Core.List.{List, [], _∷_}
 use mathlib.Core.Logic.{_⊎_, inl, inr, ⊎-elim}
 use mathlib.Core.Option.{Option, Option·getD, Option·map, none, some}
@@ -13,18 +13,21 @@ use native.Mathlib.Omega.{arith}
 use Rattle.names.specs.Lists.{In, isSome, same}
 use Rattle.names.specs.Names.{isBlank, text}
 use Rattle.names.proofs.Lists.{in-keep, none-first, some-first}
-use Rattle.names.proofs.Tests.{is-some, and-left, by-cases, by-option, isSome-map, not-both, not-none, or-none-left, some-map, the-some}
+use Rattle.names.proofs.Tests.{is-some, and-left, by-cases, by-option, isSome-map, not-both, or-none-left, or-right}
 use Rattle.recipe.specs.Definitions.{elementNamed, elements, holder, modelOf, named, portNamed, ports, recordsOf, submodelNamed, submodels, namedBy, submodelOf}
 use Rattle.recipe.specs.Reading.{fault₅, isPortFault, isSubmodelFieldFault, isUndeclared}
-use Rattle.recipe.specs.Records.{Recipe, isDeletion, isElement, isMark, isModel, isPort, isReplacedBy, isReplacement, isSubmodel, kind, name, places, submodelField, targetField, way}
+use Rattle.recipe.specs.Records.{Recipe, isDeletion, isElement, isMark, isModel, isPointer, isPort, isReplacedBy, isReplacement, isSubmodel, kind, name, places, submodelField, targetField, way}
 use Rattle.recipe.proofs.Bodies.{by-pointer, pointer-kind}
-use Rattle.recipe.proofs.Definitions.{in-records}
-use Rattle.recipe.proofs.Going.{here}
-use Rattle.recipe.proofs.Reading.{first-model, place-low, readable}
-use Rattle.tree.specs.Numbers.{ahead, firstBelow, numberIn, order}
-use Rattle.tree.specs.Resolve.{Names, Resolved}
-use Rattle.tree.specs.Tree.{Node, definitionBelow, elementTarget, node, submodelNames, targetBelow, targetBy, targetNamed, targetWithin, through}
+use Rattle.recipe.proofs.Definitions.{in-records, in-submodels}
+use Rattle.recipe.proofs.Reading.{first-model, readable}
+use Rattle.shadow.specs.Columns.{Linked, Measured, order}
+use Rattle.shadow.specs.Shadow.{Shadowed}
+use Rattle.shadow.proofs.Cells.{row-room}
+use Rattle.tree.specs.Numbers.{ahead, firstBelow, numberIn}
+use Rattle.tree.specs.Resolve.{Keeps, OffsetOf}
+use Rattle.tree.specs.Tree.{Node, definitionBelow, elementTarget, node, submodelNames, target, targetBelow, targetBy, targetNamed, targetWithin, through}
 use Rattle.tree.specs.Walk.{Known, Right}
+use Rattle.tree.proofs.ByHeight.{target-by-height}
 
 module _ (s : Recipe) where
   -- ---- a pointer's submodel, by row 5
@@ -133,39 +136,31 @@ module _ (s : Recipe) where
   unfolding numberIn through node firstBelow definitionBelow
   number-through d m y = omega arith
 
-  pub known-down : (off : List ℕ) (d m : ℕ) → In m (submodels s d) → Known s off d → Known s off (modelOf s m)
+  pub known-down : (t : List ℕ) (d m : ℕ) → In m (submodels s d) → Known s t d → Known s t (modelOf s m)
   unfolding definitionBelow
-  known-down off d m i k path p j = k (m ∷ path) (i, p) j
+  known-down t d m i k path p j = k (m ∷ path) (i, p) j
 
-  known-here : (off : List ℕ) (d m : ℕ) → In m (submodels s d) → Known s off d → Right s off m
+  known-here : (t : List ℕ) (d m : ℕ) → In m (submodels s d) → Known s t d → Right s t m
   unfolding definitionBelow
-  known-here off d m i k = k [] tt m i
+  known-here t d m i k = k [] tt m i
 
-  -- ---- answers
-  pub answer-none : {off : List ℕ} (n r : ℕ) → targetWithin n s r ≡ none → Resolved s off n r false 0 0
-  answer-none n r e = record {
-    found = rw e;
-    at = λ x f. not-none (sym e ∙ f);
-    counts = λ x f k. not-none (sym e ∙ f);
-    small = omega arith;
-  }
+module _ {s : Recipe} {t : List ℕ} (M : Measured s t) (r : ℕ) (here : In r (places s)) (sort : isPointer s r ≡ true) where
+  L : Linked s t
+  L = M .linked
 
-  answer-some : {off : List ℕ} (n r : ℕ) (x : Node) (num : ℕ) → targetWithin n s r ≡ some x → (Known s off (holder s r) → num ≡ numberIn s (holder s r) x) → num ≤ 131072 * (n + 1)
-      → Resolved s off n r true (x .place) num
-  answer-some n r x num e c l = record {
-    found = rw e;
-    at = λ y f. ap (λ (z : Node). z .place) (the-some (sym e ∙ f));
-    counts = λ y f k. c k ∙ ap (numberIn s (holder s r)) (the-some (sym e ∙ f));
-    small = l;
-  }
+  c₀ : Shadowed s t
+  c₀ = L .numbered .shadowed
 
-  -- by no record, none
-  pub resolve-zero : {off : List ℕ} (n r : ℕ) → n ≡ 0 → Resolved s off n r false 0 0
-  unfolding targetWithin
-  resolve-zero zero r z = answer-none 0 r refl
-  resolve-zero (suc n) r z = absurd (omega arith)
+  pub own-row : r + 13 ≤ length t
+  own-row = row-room c₀ r here
 
-module _ (s : Recipe) (sub nxt ord : List ℕ) (N : Names s sub nxt ord) (off : List ℕ) (r : ℕ) (here : In r (places s)) (sort : isMark s r || isPort s r ≡ true) where
+  -- its target, by one record more than its definition is high
+  abbrev h : ℕ
+  h = getD t (holder s r + 6) 0
+
+  by-one : target s r ≡ targetWithin (suc h) s r
+  by-one = target-by-height M (suc h) r here (omega arith)
+
   named-zero : (x : ℕ) → namedBy s r ≡ some x → x ≡ 0 → ⊥
   named-zero x e =
       by-cases (isBlank (submodelField s r))
@@ -173,136 +168,144 @@ module _ (s : Recipe) (sub nxt ord : List ℕ) (N : Names s sub nxt ord) (off : 
       (λ b. ⊎-elim (λ (w : (eqb (way s r) 0 ≡ true) × Element s (modelOf s (submodelOf s r)) x). w .1 .some-place)
       (λ (w : (eqb (way s r) 0 ≡ false) × Port s (modelOf s (submodelOf s r)) x). w .1 .some-place) (named-below s r x b e))
 
-  next-none : getD nxt r 0 ≡ 0 → namedBy s r ≡ none
-  next-none z =
+  next-none : {x : ℕ} → x ≡ getD t (r + 5) 0 → x ≡ 0 → namedBy s r ≡ none
+  next-none q z =
       by-option (namedBy s r) (λ e. e)
-      (λ y e. absurd (named-zero y e (sym (N .nexts r here sort ∙ ap (λ (o : Option ℕ). Option·getD o 0) e) ∙ z)))
+      (λ y e. absurd (named-zero y e (sym (L .named-records r here sort ∙ ap (λ (o : Option ℕ). Option·getD o 0) e) ∙ sym q ∙ z)))
 
-  next-some : (getD nxt r 0 ≡ 0 → ⊥) → namedBy s r ≡ some (getD nxt r 0)
-  next-some z =
+  next-some : {x : ℕ} → x ≡ getD t (r + 5) 0 → (x ≡ 0 → ⊥) → namedBy s r ≡ some x
+  next-some q z =
       by-option (namedBy s r)
-      (λ e. absurd (z (N .nexts r here sort ∙ ap (λ (o : Option ℕ). Option·getD o 0) e)))
-      (λ y e. e ∙ ap some (sym (N .nexts r here sort ∙ ap (λ (o : Option ℕ). Option·getD o 0) e)))
+      (λ e. absurd (z (q ∙ L .named-records r here sort ∙ ap (λ (o : Option ℕ). Option·getD o 0) e)))
+      (λ y e. e ∙ ap some (sym (q ∙ L .named-records r here sort ∙ ap (λ (o : Option ℕ). Option·getD o 0) e)))
 
-  -- places
-  pub next-low : (x : ℕ) → x ≡ getD nxt r 0 → (x ≡ 0 → ⊥) → x < length (s .bytes)
-  next-low x q z =
-      let e : namedBy s r ≡ some x = next-some (λ y. z (q ∙ y)) ∙ ap some (sym q) in
+  sub-held : isBlank (submodelField s r) ≡ false → In (submodelOf s r) (submodels s (holder s r))
+  sub-held b = sub-in s (L .row₅) r here sort b
+
+  -- the cell of the submodel
+  filled-cell : isBlank (submodelField s r) ≡ false → (getD t (r + 4) 0 ≡ submodelOf s r) × (getD t (r + 4) 0 ≡ 0 → ⊥)
+  filled-cell b =
+      let e = L .named-submodels r here sort b in
+      (e, λ z. not-zero s (holder s r) (submodelOf s r) (in-submodels s (holder s r) (submodelOf s r) (sub-held b) .inside) (sym e ∙ z))
+
+  pub offset-room : getD t (r + 4) 0 + 7 < length t
+  offset-room =
       by-cases (isBlank (submodelField s r))
-      (λ b. place-low s x (named-blank s r x b e .place))
-      (λ b. ⊎-elim (λ (w : (eqb (way s r) 0 ≡ true) × Element s (modelOf s (submodelOf s r)) x). place-low s x (w .1 .place))
-      (λ (w : (eqb (way s r) 0 ≡ false) × Port s (modelOf s (submodelOf s r)) x). place-low s x (w .1 .place)) (named-below s r x b e))
+      (λ b. omega (arith, L .no-submodels r here sort b, own-row))
+      (λ b. rw (filled-cell b .0) (omega (arith, row-room c₀ (submodelOf s r) (in-submodels s (holder s r) (submodelOf s r) (sub-held b) .placed))))
 
-  pub sub-low : isBlank (submodelField s r) ≡ false → getD sub r 0 < length (s .bytes)
-  unfolding submodels
-  sub-low b =
-      let i = in-keep (isSubmodel s) (recordsOf s (holder s r)) (submodelOf s r) (sub-in s (N .declared) r here sort b) .0 in
-      rw (N .subs r here sort b) (place-low s (submodelOf s r) (in-records s (holder s r) (submodelOf s r) i .0))
+  -- no record is named
+  pub no-target : {x : ℕ} → x ≡ getD t (r + 5) 0 → x ≡ 0 → target s r ≡ none
+  no-target q z =
+      by-one
+      ∙ by-cases (isBlank (submodelField s r))
+      (λ b. target-blank s h r b ∙ ap (Option·map (node [])) (next-none q z))
+      (λ b. target-way s h r (L .row₅) here sort b ∙ ap (Option·map (through (submodelOf s r))) (named-none s h r b (next-none q z)))
 
-  -- a blank submodel
-  pub blank-is : getD sub r 0 ≡ 0 → isBlank (submodelField s r) ≡ true
-  unfolding submodels
-  blank-is z =
-      by-cases (isBlank (submodelField s r)) (λ b. b)
-      (λ b.
-      let m = in-keep (isSubmodel s) (recordsOf s (holder s r)) (submodelOf s r) (sub-in s (N .declared) r here sort b) .0 in
-      absurd (not-zero s (holder s r) (submodelOf s r) m (sym (N .subs r here sort b) ∙ z)))
+  offset-is : {f : ℕ} → OffsetOf t r f → isBlank (submodelField s r) ≡ false → Known s t (holder s r) → f ≡ ahead s (holder s r) (submodelOf s r)
+  offset-is o b k =
+      let q = filled-cell b in
+      let held = in-submodels s (holder s r) (submodelOf s r) (sub-held b) .held in
+      o .filled (q .1) ∙ ap (λ (z : ℕ). getD t (z + 7) 0) (q .0) ∙ known-here s t (holder s r) (submodelOf s r) (sub-held b) k
+      ∙ ap (λ (d : ℕ). ahead s d (submodelOf s r)) held
 
-  pub filled-is : (getD sub r 0 ≡ 0 → ⊥) → isBlank (submodelField s r) ≡ false
-  filled-is z = by-cases (isBlank (submodelField s r)) (λ b. absurd (z (N .blanks r here sort b))) (λ b. b)
+  module _ {x : ℕ} (q : x ≡ getD t (r + 5) 0) (z : x ≡ 0 → ⊥) where
+    is-named : namedBy s r ≡ some x
+    is-named = next-some q z
 
-  pub port-none : (n : ℕ) → (n ≡ 0 → ⊥) → isBlank (submodelField s r) ≡ true → getD nxt r 0 ≡ 0 → Resolved s off n r false 0 0
-  port-none zero u b z = absurd (u refl)
-  port-none (suc n) u b z = answer-none s (suc n) r (target-blank s n r b ∙ ap (Option·map (node [])) (next-none z))
+    pub named-place : In x (places s)
+    named-place =
+        by-cases (isBlank (submodelField s r))
+        (λ b. named-blank s r x b is-named .place)
+        (λ b. ⊎-elim (λ (w : (eqb (way s r) 0 ≡ true) × Element s (modelOf s (submodelOf s r)) x). w .1 .place)
+        (λ (w : (eqb (way s r) 0 ≡ false) × Port s (modelOf s (submodelOf s r)) x). w .1 .place) (named-below s r x b is-named))
 
-  pub port-own : (n x num : ℕ) → (n ≡ 0 → ⊥) → isBlank (submodelField s r) ≡ true → x ≡ getD nxt r 0 → (x ≡ 0 → ⊥) → num ≡ getD ord x 0 → num < 65536 → Resolved s off n r true x num
-  unfolding node
-  port-own zero x num u b q z c l = absurd (u refl)
-  port-own (suc n) x num u b q z c l =
-      let e : namedBy s r ≡ some x = next-some (λ y. z (q ∙ y)) ∙ ap some (sym q) in
-      let E = named-blank s r x b e in
-      answer-some s (suc n) r (node [] x) num (target-blank s n r b ∙ ap (Option·map (node [])) e)
-      (λ k. c ∙ N .orders x (E .place) (E .sort) ∙ ap (λ (d : ℕ). order s d x) (E .held) ∙ sym (number-own s (holder s r) x))
-      (omega arith)
+    pub named-row : x + 13 ≤ length t
+    named-row = row-room c₀ x named-place
 
-  module _ (filled : isBlank (submodelField s r) ≡ false) where
-    abbrev m : ℕ
-    m = submodelOf s r
-
-    m-in : In m (submodels s (holder s r))
-    m-in = sub-in s (N .declared) r here sort filled
-
-    pub ref-none : (n : ℕ) → (n ≡ 0 → ⊥) → getD nxt r 0 ≡ 0 → Resolved s off n r false 0 0
-    ref-none zero u z = absurd (u refl)
-    ref-none (suc n) u z =
-        answer-none s (suc n) r (target-way s n r (N .declared) here sort filled ∙ ap (Option·map (through m)) (named-none s n r filled (next-none z)))
-
-    -- what the submodel's offset is
-    off-is : (f : ℕ) → f ≡ getD off (getD sub r 0) 0 → Known s off (holder s r) → f ≡ ahead s (holder s r) m
-    unfolding submodels
-    off-is f q k =
-        let i = in-keep (isSubmodel s) (recordsOf s (holder s r)) m m-in .0 in
-        let h : holder s m ≡ holder s r = in-records s (holder s r) m i .1 in
-        q ∙ ap (λ (z : ℕ). getD off z 0) (N .subs r here sort filled) ∙ known-here s off (holder s r) m m-in k ∙ ap (λ (d : ℕ). ahead s d m) h
-
-    element-not-port : (x : ℕ) → getD (s .bytes) x 0 ≡ 2 → isPort s x ≡ true → ⊥
+    element-not-port : getD (s .bytes) x 0 ≡ 2 → isPort s x ≡ true → ⊥
     unfolding isPort kind
-    element-not-port x k e = let q = eqb-true (getD (s .bytes) x 0) 3 e in omega arith
+    element-not-port k e = let y = eqb-true (getD (s .bytes) x 0) 3 e in omega arith
 
-    element-kind : (x : ℕ) → isElement s x ≡ true → getD (s .bytes) x 0 ≡ 2
+    element-kind : isElement s x ≡ true → getD (s .bytes) x 0 ≡ 2
     unfolding isElement kind
-    element-kind x e = eqb-true (getD (s .bytes) x 0) 2 e
+    element-kind e = eqb-true (getD (s .bytes) x 0) 2 e
 
-    pub ref-element : (n x f g num : ℕ) → (n ≡ 0 → ⊥) → x ≡ getD nxt r 0 → (x ≡ 0 → ⊥) → getD (s .bytes) x 0 ≡ 2 → f ≡ getD off (getD sub r 0) 0 → f < 65536
-        → g ≡ getD ord x 0 → g < 65536 → num ≡ f + g → Resolved s off n r true x num
-    unfolding through node
-    ref-element zero x f g num u q z k a la b lb e = absurd (u refl)
-    ref-element (suc n) x f g num u q z k a la b lb e =
-        let nm : namedBy s r ≡ some x = next-some (λ y. z (q ∙ y)) ∙ ap some (sym q) in
+    order-is : {d g : ℕ} → Element s d x → g ≡ getD t (x + 1) 0 → g ≡ order s d x
+    order-is E e = e ∙ L .numbered .orders x (E .place) (E .sort) ∙ ap (λ (d : ℕ). order s d x) (E .held)
+
+    -- an element: the target
+    pub element-keeps : {f g num : ℕ} → getD (s .bytes) x 0 ≡ 2 → OffsetOf t r f → g ≡ getD t (x + 1) 0 → (f + g < 65536 → num ≡ f + g) → Keeps s t r x num
+    unfolding node through
+    element-keeps {f} {g} {num} k o e a =
+        by-cases (isBlank (submodelField s r))
+        (λ b.
+        let E = named-blank s r x b is-named in
+        let v : numberIn s (holder s r) (node [] x) ≡ f + g =
+        omega (arith, number-own s (holder s r) x, order-is E e, o .blank (L .no-submodels r here sort b)) in record {
+          node = node [] x;
+          there = by-one ∙ target-blank s h r b ∙ ap (Option·map (node [])) is-named;
+          at = refl;
+          counts = λ kn l. a (omega arith) ∙ sym v;
+        })
+        (λ b.
+        let m = submodelOf s r in
         ⊎-elim
         (λ (w : (eqb (way s r) 0 ≡ true) × Element s (modelOf s m) x).
-        let E = w .1 in
-        answer-some s (suc n) r (through m (node [] x)) num
-        (target-way s n r (N .declared) here sort filled ∙ ap (Option·map (through m)) (named-element s n r x filled nm (w .0)))
-        (λ kn.
-        let o : g ≡ order s (modelOf s m) x = b ∙ N .orders x (E .place) (E .sort) ∙ ap (λ (d : ℕ). order s d x) (E .held) in
-        omega (arith, off-is f a kn, o, number-through s (holder s r) m (node [] x), number-own s (modelOf s m) x))
-        (omega arith))
-        (λ (w : (eqb (way s r) 0 ≡ false) × Port s (modelOf s m) x). absurd (element-not-port x k (w .1 .sort)))
-        (named-below s r x filled nm)
+        let v : Known s t (holder s r) → numberIn s (holder s r) (through m (node [] x)) ≡ f + g = λ kn.
+        omega (arith, number-through s (holder s r) m (node [] x), number-own s (modelOf s m) x, order-is (w .1) e, offset-is o b kn) in record {
+          node = through m (node [] x);
+          there = by-one ∙ target-way s h r (L .row₅) here sort b ∙ ap (Option·map (through m)) (named-element s h r x b is-named (w .0));
+          at = refl;
+          counts = λ kn l. a (omega (arith, v kn)) ∙ sym (v kn);
+        })
+        (λ (w : (eqb (way s r) 0 ≡ false) × Port s (modelOf s m) x). absurd (element-not-port k (w .1 .sort)))
+        (named-below s r x b is-named))
 
-    -- a further port
-    pub ref-port-in : (x : ℕ) → x ≡ getD nxt r 0 → (x ≡ 0 → ⊥) → (getD (s .bytes) x 0 ≡ 2 → ⊥) → (eqb (way s r) 0 ≡ false) × Port s (modelOf s m) x
-    ref-port-in x q z k =
-        let nm : namedBy s r ≡ some x = next-some (λ y. z (q ∙ y)) ∙ ap some (sym q) in
-        ⊎-elim
-        (λ (w : (eqb (way s r) 0 ≡ true) × Element s (modelOf s m) x). absurd (k (element-kind x (w .1 .sort))))
-        (λ (w : (eqb (way s r) 0 ≡ false) × Port s (modelOf s m) x). w)
-        (named-below s r x filled nm)
+    -- a further port, of the model of the submodel that is named
+    module _ (k : getD (s .bytes) x 0 ≡ 2 → ⊥) where
+      filled : isBlank (submodelField s r) ≡ false
+      filled =
+          by-cases (isBlank (submodelField s r))
+          (λ b. absurd (k (element-kind (named-blank s r x b is-named .sort))))
+          (λ b. b)
 
-    pub ref-port : (n x f num : ℕ) (ok : Bool) (pl nu : ℕ) → (n ≡ 0 → ⊥) → x ≡ getD nxt r 0 → (x ≡ 0 → ⊥) → (getD (s .bytes) x 0 ≡ 2 → ⊥) → f ≡ getD off (getD sub r 0) 0 → f < 65536
-        → Resolved s off (n - 1) x ok pl nu → num ≡ f + nu → Resolved s off n r ok pl num
-    unfolding through node
-    ref-port zero x f num ok pl nu u q z k a la h e = absurd (u refl)
-    ref-port (suc n) x f num ok pl nu u q z k a la h e =
-        let nm : namedBy s r ≡ some x = next-some (λ y. z (q ∙ y)) ∙ ap some (sym q) in
-        let w = ref-port-in x q z k in
-        let one : suc n - 1 ≡ n = omega arith in
-        let T : targetWithin (suc n) s r ≡ Option·map (through m) (targetWithin n s x) =
-        target-way s n r (N .declared) here sort filled ∙ ap (Option·map (through m)) (named-port s n r x filled nm (w .0)) in
-        let H : Resolved s off n x ok pl nu = rw one at h in
-        let step : (y : Node) → targetWithin (suc n) s r ≡ some y → (v : Node) × (targetWithin n s x ≡ some v) × (y ≡ through m v) =
-        λ y t. some-map (through m) (targetWithin n s x) y (sym T ∙ t) in record {
-          found = H .found ∙ sym (ap isSome T ∙ isSome-map (through m) (targetWithin n s x));
-          at = λ y t. let v = step y t in H .at (v .0) (v .1) ∙ sym (ap (λ (o : Node). o .place) (v .2) ∙ through-place (v .0));
-          counts = λ y t kn.
-              let v = step y t in
-              let c : nu ≡ numberIn s (modelOf s m) (v .0) =
-              rw (w .1 .held) at (H .counts (v .0) (v .1) (rw (w .1 .held) (known-down s off (holder s r) m m-in kn))) in
-              let d : numberIn s (holder s r) y ≡ ahead s (holder s r) m + numberIn s (modelOf s m) (v .0) = ap (numberIn s (holder s r)) (v .2) ∙ number-through s (holder s r) m (v .0) in
-              omega (arith, off-is f a kn);
-          small = omega (arith, H .small);
-        }
-      where
-        through-place : (v : Node) → through m v .place ≡ v .place
-        through-place v = refl
+      abbrev m : ℕ
+      m = submodelOf s r
+
+      port : (eqb (way s r) 0 ≡ false) × Port s (modelOf s m) x
+      port =
+          ⊎-elim
+          (λ (w : (eqb (way s r) 0 ≡ true) × Element s (modelOf s m) x). absurd (k (element-kind (w .1 .sort))))
+          (λ (w : (eqb (way s r) 0 ≡ false) × Port s (modelOf s m) x). w)
+          (named-below s r x filled is-named)
+
+      pub port-sort : isPointer s x ≡ true
+      port-sort = or-right (isMark s x) (isPort s x) (port .1 .sort)
+
+      -- its definition is lower
+      pub port-lower : getD t (holder s x + 6) 0 < getD t (holder s r + 6) 0
+      port-lower = rw (port .1 .held) (M .heights .falls (holder s r) m (sub-held filled))
+
+      through-port : target s r ≡ Option·map (through m) (target s x)
+      through-port =
+          by-one ∙ target-way s h r (L .row₅) here sort filled
+          ∙ ap (Option·map (through m)) (named-port s h r x filled is-named (port .0) ∙ sym (target-by-height M h x named-place (omega (arith, port-lower))))
+
+      pub port-found : isSome (target s r) ≡ isSome (target s x)
+      port-found = ap isSome through-port ∙ isSome-map (through m) (target s x)
+
+      pub port-keeps : {f pl nu num : ℕ} → OffsetOf t r f → Keeps s t x pl nu → (f + nu < 65536 → num ≡ f + nu) → Keeps s t r pl num
+      unfolding through node
+      port-keeps {f} {pl} {nu} {num} o K a =
+          let v : numberIn s (holder s r) (through m (K .node)) ≡ ahead s (holder s r) m + numberIn s (modelOf s m) (K .node) = number-through s (holder s r) m (K .node) in
+          let e = port .1 .held in
+          let u : numberIn s (holder s x) (K .node) ≡ numberIn s (modelOf s m) (K .node) = ap (λ (d : ℕ). numberIn s d (K .node)) e in record {
+            node = through m (K .node);
+            there = through-port ∙ ap (Option·map (through m)) (K .there);
+            at = K .at;
+            counts = λ kn l.
+                let w = offset-is o filled kn in
+                let c : nu ≡ numberIn s (holder s x) (K .node) = K .counts (rw e (known-down s t (holder s r) m (sub-held filled) kn)) (omega arith) in
+                a (omega arith) ∙ omega arith;
+          }

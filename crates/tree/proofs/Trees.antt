@@ -4,8 +4,8 @@ use Prim.Native.Nat.{_*_, _+_, _-_, _<_, _≤_, suc, zero, ℕ}
 use borrow.Author.Tests.{lt-ltb, ltb-false, ltb-true}
 use lib.Dec.{ltb}
 use lib.ListN.{List·getD-append, drop, getD, length, length-append, length-map}
-use lib.Seq.{getD-append-add, sets-eq}
-use mathlib.Core.Bool.{Bool, Bool·not-not, _||_, false, not, or-false, true}
+use lib.Seq.{getD-append-add, sets, sets-eq}
+use mathlib.Core.Bool.{Bool, _||_, false, or-false, true}
 use mathlib.Core.List.{List, [], _++_, _∷_, append-assoc, append-nil, map}
 use mathlib.Core.Logic.{inl}
 use mathlib.Core.Path.{_∙_, _≡_, ap, refl, sym}
@@ -15,14 +15,21 @@ use native.Mathlib.Omega.{arith}
 use Rattle.names.specs.Lists.{In, any, joined}
 use Rattle.names.proofs.Lists.{any-in, any-some, append-left, append-right}
 use Rattle.names.proofs.Tests.{both-ways, by-cases, or-left, or-right}
-use Rattle.recipe.specs.Definitions.{elements, main, modelOf, submodels}
-use Rattle.recipe.specs.Records.{Recipe}
-use Rattle.tree.specs.Faults.{isTooLarge, mostInstances, mostElements}
-use Rattle.tree.specs.Numbers.{Instances, ahead, firstAt, firstBelow, total, weightIn}
+use Rattle.recipe.specs.Definitions.{definitions, elements, main, modelOf, submodels}
+use Rattle.recipe.specs.Reading.{atStart}
+use Rattle.recipe.specs.Records.{Recipe, places}
+use Rattle.recipe.proofs.Definitions.{in-submodels}
+use Rattle.shadow.specs.Shadow.{Cell, Kept, Shadowed}
+use Rattle.shadow.specs.Columns.{Measured}
+use Rattle.shadow.proofs.Cells.{shadowed-over}
+use Rattle.shadow.proofs.Columns.{measured-over}
+use Rattle.tree.specs.Faults.{fault₇, isTooLarge, mostInstances, mostElements}
+use Rattle.tree.specs.Numbers.{ahead, firstAt, firstBelow, total, weightIn}
+use Rattle.tree.specs.Planted.{Planted, ThreadRequires, Threaded}
 use Rattle.tree.specs.Tree.{Submodels, definitionAt, definitionBelow, instances, mostDepth, nodes, pathsBelow, treeElements}
-use Rattle.tree.specs.Walk.{Covered, Grown, Long, Offsets, Right, deepIn, instsIn, over, rowsIn, rowsOver}
-use Rattle.tree.proofs.Instances.{below-append, below-submodels, depth, paths-suffice, submodels-below}
-use Rattle.tree.proofs.Walks.{Out, ahead-split, answer-yes, instsAt, not-deep, over-not, rows-long, rowsAt, rowsUnder, total-append, weightAt}
+use Rattle.tree.specs.Walk.{Covered, Grown, Right, deepIn, instsIn, over, rowsIn, rowsOver}
+use Rattle.tree.proofs.Instances.{below-append, below-submodels, paths-suffice, submodels-below}
+use Rattle.tree.proofs.Walks.{ahead-split, instsAt, not-deep, over-not, rows-long, rowsAt, rowsUnder, total-append, weightAt}
 use Rattle.tree.proofs.Numbering.{Shallow, joined-append, map-append, numberBelow, numbers, run-length, total-cong, weight-enough}
 
 joined-total : {A : Type 0} (f : ℕ → List A) (ms : List ℕ) → length (joined (map f ms)) ≡ total (λ m. length (f m)) ms
@@ -100,22 +107,22 @@ module _ (s : Recipe) where
 
   -- row 7, by the walk's counts
   pub too-large : isTooLarge s ≡ over 4 s main 0 0
-  unfolding isTooLarge over instances mostDepth mostInstances mostElements
+  unfolding isTooLarge over instances mostDepth
   too-large =
       let D : any (λ path. ltb 4 (length path)) (instances s) ≡ deepIn 4 s main = any-deep 4 main in
       by-cases (deepIn 4 s main)
       (λ e.
-      or-left _ _ (or-right (ltb 64 (length (instances s))) (any (λ path. ltb 4 (length path)) (instances s)) (D ∙ e))
-      ∙ sym (or-right (ltb 64 (0 + instsIn 4 s main) || ltb 1024 (0 + weightIn 4 s main)) (deepIn 4 s main) e))
+      or-left _ _ (or-right (ltb mostInstances (length (instances s))) (any (λ path. ltb 4 (length path)) (instances s)) (D ∙ e))
+      ∙ sym (or-right (ltb mostInstances (0 + instsIn 4 s main) || ltb mostElements (0 + weightIn 4 s main)) (deepIn 4 s main) e))
       (λ e.
       let h : Shallow s 4 main = not-deep s 4 main e in
       let a : length (instances s) ≡ 0 + instsIn 4 s main = ap length (paths-enough 4 5 main h (omega arith)) ∙ insts-are 4 main ∙ omega arith in
       let w : length (treeElements s) ≡ 0 + weightIn 4 s main = tree-weight h ∙ omega arith in
-      ap (λ (z : ℕ). ltb 64 z || any (λ path. ltb 4 (length path)) (instances s) || ltb 1024 (length (treeElements s))) a
-      ∙ ap (λ (b : Bool). ltb 64 (0 + instsIn 4 s main) || b || ltb 1024 (length (treeElements s))) (D ∙ e)
-      ∙ ap (λ (z : ℕ). ltb 64 (0 + instsIn 4 s main) || false || ltb 1024 z) w
-      ∙ ap (λ (b : Bool). b || ltb 1024 (0 + weightIn 4 s main)) (or-false (ltb 64 (0 + instsIn 4 s main)))
-      ∙ sym (ap (λ (b : Bool). ltb 64 (0 + instsIn 4 s main) || ltb 1024 (0 + weightIn 4 s main) || b) e ∙ or-false (ltb 64 (0 + instsIn 4 s main) || ltb 1024 (0 + weightIn 4 s main))))
+      ap (λ (z : ℕ). ltb mostInstances z || any (λ path. ltb 4 (length path)) (instances s) || ltb mostElements (length (treeElements s))) a
+      ∙ ap (λ (b : Bool). ltb mostInstances (0 + instsIn 4 s main) || b || ltb mostElements (length (treeElements s))) (D ∙ e)
+      ∙ ap (λ (z : ℕ). ltb mostInstances (0 + instsIn 4 s main) || false || ltb mostElements z) w
+      ∙ ap (λ (b : Bool). b || ltb mostElements (0 + weightIn 4 s main)) (or-false (ltb mostInstances (0 + instsIn 4 s main)))
+      ∙ sym (ap (λ (b : Bool). ltb mostInstances (0 + instsIn 4 s main) || ltb mostElements (0 + weightIn 4 s main) || b) e ∙ or-false (ltb mostInstances (0 + instsIn 4 s main) || ltb mostElements (0 + weightIn 4 s main))))
 
   -- ---- the rows are those of the instances
   pub first-append : (d : ℕ) (p q : List ℕ) → firstBelow s d (p ++ q) ≡ firstBelow s d p + firstBelow s (definitionBelow s d p) q
@@ -139,12 +146,12 @@ module _ (s : Recipe) where
       ∙ map-at (λ path. m ∷ path) (pathsBelow n s (modelOf s m)) j [] [] (omega (arith, insts-are n (modelOf s m)))
 
   -- an instance's row, by column
-  abbrev five : ℕ → ℕ → ℕ → ℕ → ℕ → ℕ → ℕ
-  five d k e m u c = getD (d ∷ k ∷ e ∷ m ∷ u ∷ []) c 0
+  abbrev six : ℕ → ℕ → ℕ → ℕ → ℕ → ℕ → ℕ
+  six d k e m u c = getD (d ∷ k ∷ e ∷ m ∷ u ∷ 0 ∷ []) c 0
 
   -- look gives an instance's path by its number
   module _ (look : ℕ → List ℕ) where
-    -- the five numbers are those of the instance i at the path
+    -- the six numbers are those of the instance i at the path
     record Row (i : ℕ) (path : List ℕ) (f : ℕ → ℕ) : Type 0 where
       pub model : f 0 ≡ definitionBelow s main path
       pub depth : f 1 ≡ length path
@@ -162,30 +169,30 @@ module _ (s : Recipe) where
 
     -- c rows, those of the instances from i on
     abbrev Rows : ℕ → ℕ → List ℕ → Type 0
-    Rows i c R = (j : ℕ) → j < c → Row (i + j) (look (i + j)) (λ k. getD R (5 * j + k) 0)
+    Rows i c R = (j : ℕ) → j < c → Row (i + j) (look (i + j)) (λ k. getD R (6 * j + k) 0)
 
     one-row : (i : ℕ) (p l : List ℕ) → look (i + 0) ≡ p → Row i p (λ c. getD l c 0) → Rows i 1 l
     one-row i p l q r zero h =
-        row-same p (look (i + 0)) (λ c. getD l c 0) (λ c. getD l (5 * 0 + c) 0) (sym (add-zero i)) (sym q) (λ c b. ap (λ (y : ℕ). getD l y 0) (omega arith)) r
+        row-same p (look (i + 0)) (λ c. getD l c 0) (λ c. getD l (6 * 0 + c) 0) (sym (add-zero i)) (sym q) (λ c b. ap (λ (y : ℕ). getD l y 0) (omega arith)) r
     one-row i p l q r (suc j) h = absurd (omega arith)
 
-    rows-join : (i a b : ℕ) (A B : List ℕ) → length A ≡ 5 * a → Rows i a A → Rows (i + a) b B → Rows i (a + b) (A ++ B)
+    rows-join : (i a b : ℕ) (A B : List ℕ) → length A ≡ 6 * a → Rows i a A → Rows (i + a) b B → Rows i (a + b) (A ++ B)
     rows-join i a b A B l p q j h =
         by-cases (ltb j a)
         (λ z.
         let v : j < a = ltb-true j a z in
-        row-same _ _ (λ c. getD A (5 * j + c) 0) (λ c. getD (A ++ B) (5 * j + c) 0) refl refl (λ c k. sym (List·getD-append A B 0 (5 * j + c) (omega arith))) (p j v))
+        row-same _ _ (λ c. getD A (6 * j + c) 0) (λ c. getD (A ++ B) (6 * j + c) 0) refl refl (λ c k. sym (List·getD-append A B 0 (6 * j + c) (omega arith))) (p j v))
         (λ z.
         let v : a ≤ j = ltb-false j a z in
         let w : i + a + (j - a) ≡ i + j = omega arith in
-        row-same (look (i + a + (j - a))) (look (i + j)) (λ c. getD B (5 * (j - a) + c) 0) (λ c. getD (A ++ B) (5 * j + c) 0) w (ap look w)
+        row-same (look (i + a + (j - a))) (look (i + j)) (λ c. getD B (6 * (j - a) + c) 0) (λ c. getD (A ++ B) (6 * j + c) 0) w (ap look w)
         (λ c k.
-        let y : length A + (5 * (j - a) + c) ≡ 5 * j + c = omega arith in
-        sym (getD-append-add A B (5 * (j - a) + c) 0) ∙ ap (λ (x : ℕ). getD (A ++ B) x 0) y)
+        let y : length A + (6 * (j - a) + c) ≡ 6 * j + c = omega arith in
+        sym (getD-append-add A B (6 * (j - a) + c) 0) ∙ ap (λ (x : ℕ). getD (A ++ B) x 0) y)
         (q (j - a) (omega arith)))
 
     -- those of subtrees, one after another
-    over-rows : (f : ℕ → ℕ → ℕ → List ℕ) (w c : ℕ → ℕ) (e i : ℕ) (ms : List ℕ) → ((m x j : ℕ) → length (f m x j) ≡ 5 * c m)
+    over-rows : (f : ℕ → ℕ → ℕ → List ℕ) (w c : ℕ → ℕ) (e i : ℕ) (ms : List ℕ) → ((m x j : ℕ) → length (f m x j) ≡ 6 * c m)
         → ((xs ys : List ℕ) (m : ℕ) → ms ≡ xs ++ m ∷ ys → Rows (i + total c xs) (c m) (f m (e + total w xs) (i + total c xs)))
         → Rows i (total c ms) (rowsOver f w c e i ms)
     over-rows f w c e i [] l h = λ j z. absurd (omega arith)
@@ -199,8 +206,8 @@ module _ (s : Recipe) where
         rw (a, b) (h (m ∷ xs) ys k (ap (λ (l : List ℕ). m ∷ l) q))))
 
     -- the submodel q of the instance i
-    sub-row : (n d k e i m u q : ℕ) (pre xs ys : List ℕ) → Row i pre (five d k e m u) → look i ≡ pre → submodels s d ≡ xs ++ q ∷ ys → Shallow s (suc n) d → n ≤ 5
-        → Row (suc i + total (instsAt s n) xs) (pre ++ q ∷ []) (five (modelOf s q) (suc k) (e + length (elements s d) + total (weightAt s n) xs) q i)
+    sub-row : (n d k e i m u q : ℕ) (pre xs ys : List ℕ) → Row i pre (six d k e m u) → look i ≡ pre → submodels s d ≡ xs ++ q ∷ ys → Shallow s (suc n) d → n ≤ 5
+        → Row (suc i + total (instsAt s n) xs) (pre ++ q ∷ []) (six (modelOf s q) (suc k) (e + length (elements s d) + total (weightAt s n) xs) q i)
     unfolding definitionBelow firstBelow
     sub-row n d k e i m u q pre xs ys r o t h l = record {
       model = sym (below-append s main pre (q ∷ []));
@@ -216,10 +223,10 @@ module _ (s : Recipe) where
     }
 
     -- the tree below the instance i
-    below-rows : (n d k e i m u : ℕ) (pre : List ℕ) → Shallow s n d → n ≤ 5 → Row i pre (five d k e m u)
+    below-rows : (n d k e i m u : ℕ) (pre : List ℕ) → Shallow s n d → n ≤ 5 → Row i pre (six d k e m u)
         → ((j : ℕ) → j < instsIn n s d → look (i + j) ≡ pre ++ getD (pathsBelow n s d) j []) → Rows i (instsIn n s d) (rowsIn n s d k e i m u)
     unfolding rowsIn instsIn pathsBelow
-    below-rows zero d k e i m u pre h l r looks = one-row i pre (d ∷ k ∷ e ∷ m ∷ u ∷ []) (looks 0 (omega arith) ∙ append-nil pre) r
+    below-rows zero d k e i m u pre h l r looks = one-row i pre (d ∷ k ∷ e ∷ m ∷ u ∷ 0 ∷ []) (looks 0 (omega arith) ∙ append-nil pre) r
     below-rows (suc n) d k e i m u pre h l r looks =
         let o : look (i + 0) ≡ pre = looks 0 (omega arith) ∙ append-nil pre in
         let S = submodels s d in
@@ -240,12 +247,17 @@ module _ (s : Recipe) where
         ∙ sym (append-assoc pre (q ∷ []) (getD (pathsBelow n s (modelOf s q)) j []))) in
         let under : Rows (suc i) (total C S) (rowsUnder s n d k e i S) =
         over-rows (rowsAt s n (suc k) i) (weightAt s n) C (e + length (elements s d)) (suc i) S (λ q x j. rows-long s n (modelOf s q) (suc k) x j q i) piece in
-        rows-join i 1 (total C S) (d ∷ k ∷ e ∷ m ∷ u ∷ []) (rowsUnder s n d k e i S) refl (one-row i pre (d ∷ k ∷ e ∷ m ∷ u ∷ []) o r) (rw add-one under)
+        rows-join i 1 (total C S) (d ∷ k ∷ e ∷ m ∷ u ∷ 0 ∷ []) (rowsUnder s n d k e i S) refl (one-row i pre (d ∷ k ∷ e ∷ m ∷ u ∷ 0 ∷ []) o r) (rw add-one under)
 
   -- the tables after a walk from main that goes through
-  module _ (inst off inst′ off′ : List ℕ) (j x : ℕ) (g : Grown s 4 main 0 0 0 0 inst off inst′ off′ j x) (fits : over 4 s main 0 0 ≡ false) (long : length inst ≡ 320) where
+  module _ (inst₀ : List ℕ) {t inst t′ inst′ : List ℕ} {j x : ℕ} (g : Grown s 4 main 0 0 t inst t′ inst′ j x) (fits : over 4 s main 0 0 ≡ false) (long : 384 ≤ length inst₀)
+      (start : inst ≡ sets inst₀ 0 (main ∷ 0 ∷ 0 ∷ 0 ∷ 0 ∷ 0 ∷ [])) where
     shallow : Shallow s 4 main
     shallow = not-deep s 4 main (over-not s 4 main 0 0 fits .flat)
+
+    few : j ≤ 64
+    unfolding mostInstances
+    few = omega (arith, g .insts, over-not s 4 main 0 0 fits .few)
 
     paths-are : instances s ≡ pathsBelow 4 s main
     unfolding instances mostDepth
@@ -257,59 +269,73 @@ module _ (s : Recipe) where
     abbrev look : ℕ → List ℕ
     look i = getD (instances s) i []
 
-    row-at : (i : ℕ) → i < j → Row look i (look i) (λ c. getD inst′ (5 * i + c) 0)
+    rows-are : inst′ ≡ sets inst₀ 0 (rowsIn 4 s main 0 0 0 0 0)
+    unfolding mostDepth
+    rows-are = g .rows inst₀ 0 0 start
+
+    row-at : (i : ℕ) → i < j → Row look i (look i) (λ c. getD inst′ (6 * i + c) 0)
     unfolding definitionBelow firstBelow
     row-at i h =
         let R = rowsIn 4 s main 0 0 0 0 0 in
         let I = g .insts in
-        let F = over-not s 4 main 0 0 fits .few in
-        let L : length R ≡ 5 * instsIn 4 s main = rows-long s 4 main 0 0 0 0 0 in
+        let F = few in
+        let L : length R ≡ 6 * instsIn 4 s main = rows-long s 4 main 0 0 0 0 0 in
         let z : 0 + i ≡ i = omega arith in
-        let top : Row look 0 [] (five main 0 0 0 0) = record { model = refl; depth = refl; start = refl; above = λ y. absurd (omega arith) } in
+        let top : Row look 0 [] (six main 0 0 0 0) = record { model = refl; depth = refl; start = refl; above = λ y. absurd (omega arith) } in
         let rows = below-rows look 4 main 0 0 0 0 0 [] shallow (omega arith) top
         (λ y k. ap look (omega arith) ∙ ap (λ (l : List (List ℕ)). getD l y []) paths-are) in
-        row-same look (look (0 + i)) (look i) (λ c. getD R (5 * i + c) 0) (λ c. getD inst′ (5 * i + c) 0) z (ap look z)
+        row-same look (look (0 + i)) (look i) (λ c. getD R (6 * i + c) 0) (λ c. getD inst′ (6 * i + c) 0) z (ap look z)
         (λ c k.
-        sym (ap (λ (y : List ℕ). getD y (5 * i + c) 0) (g .rows ∙ sets-eq R inst 0 (omega arith))
-        ∙ List·getD-append R (drop (0 + length R) inst) 0 (5 * i + c) (omega arith)))
+        sym (ap (λ (y : List ℕ). getD y (6 * i + c) 0) (rows-are ∙ sets-eq R inst₀ 0 (omega arith))
+        ∙ List·getD-append R (drop (0 + length R) inst₀) 0 (6 * i + c) (omega arith)))
         (rows i (omega arith))
-
-    pub instances-table : Instances s inst′ j
-    unfolding definitionAt firstAt
-    instances-table = record {
-      count = count-is;
-      few = omega (arith, g .insts, over-not s 4 main 0 0 fits .few);
-      model = λ i h. ap (λ (y : ℕ). getD inst′ y 0) (sym (add-zero (5 * i))) ∙ row-at i h .model;
-      depth = λ i h. row-at i h .depth;
-      start = λ i h. row-at i h .start;
-      above = λ i h. row-at i h .above;
-    }
 
     pub elements-are : x ≡ length (treeElements s)
     elements-are = omega (arith, g .elems, tree-weight shallow)
 
-    covered-right : (n d : ℕ) (path : List ℕ) → Covered n s d off′ → Shallow s n d → Submodels s d path → (m : ℕ) → In m (submodels s (definitionBelow s d path)) → Right s off′ m
+    covered-right : (n d : ℕ) (path : List ℕ) → Covered n s d t′ → Shallow s n d → Submodels s d path → (m : ℕ) → In m (submodels s (definitionBelow s d path)) → Right s t′ m
     unfolding Covered definitionBelow
     covered-right zero d [] c h p m i = absurd (h m i)
     covered-right zero d (k ∷ path) c h p m i = absurd (h k (p .0))
     covered-right (suc n) d [] c h p m i = c m i .0
     covered-right (suc n) d (k ∷ path) c h p m i = covered-right n (modelOf s k) path (c k (p .0) .1) (h k (p .0)) (p .1) m i
 
-    pub offsets-table : Offsets s off′
+    offset-at : (path : List ℕ) → In path (instances s) → (m : ℕ) → In m (submodels s (definitionAt s path)) → Right s t′ m
     unfolding definitionAt instances
-    offsets-table = record { right = λ path i m k. covered-right 4 main path (g .covers) shallow (below-submodels s _ main path i) m k }
+    offset-at path i m k = covered-right 4 main path (g .covers) shallow (below-submodels s _ main path i) m k
 
-pub planted : (s : Recipe) (ok : Bool) (inst off inst′ off′ : List ℕ) (j x : ℕ) → Out s 4 main 0 0 0 0 inst off inst′ off′ ok j x → Long inst off
-    → (not ok ≡ isTooLarge s) × ((not ok ≡ false → Instances s inst′ j × (Offsets s off′ × (x ≡ length (treeElements s)))) × Long inst′ off′)
-planted s ok inst off inst′ off′ j x h l = (
-  ap not (h .0) ∙ Bool·not-not (over 4 s main 0 0) ∙ sym (too-large s),
-  (
-    (λ e.
-        let y = answer-yes ok (over 4 s main 0 0) (h .0) e in
-        let g = h .1 .0 (y .0) in (
-          instances-table s inst off inst′ off′ j x g (y .1) (l .insts),
-          (offsets-table s inst off inst′ off′ j x g (y .1) (l .insts), elements-are s inst off inst′ off′ j x g (y .1) (l .insts)),
-        )),
-    h .1 .1,
-  ),
-)
+    -- what is left: the cells 8 are cleared, and the instances threaded
+    module _ (long′ : length inst′ ≡ length inst₀) {t₂ : List ℕ} (cleared : Cell (places s) 8 (λ d. 0) t₂ × Kept s (8 ∷ []) t′ t₂) where
+      pub thread-requires : Shadowed s t′ → In main (definitions s) → ThreadRequires s t₂ inst′ j
+      unfolding definitionAt
+      thread-requires c h = record {
+        shadowed = shadowed-over (cleared .1) c;
+        some = h;
+        count = count-is;
+        few = few;
+        room = omega (arith, few, long′);
+        model = λ i l. row-at i l .model;
+        clear = cleared .0;
+      }
+
+      pub all-planted : {t₀ t₃ inst₃ : List ℕ} → Measured s t₀ → Kept s (7 ∷ []) t₀ t′ → isTooLarge s ≡ false → Threaded s t₂ inst′ t₃ inst₃ j → Planted s t₃ inst₃ j
+      unfolding definitionAt firstAt fault₇ atStart
+      all-planted M k e T = record {
+        measured = measured-over (T .kept) refl refl refl (measured-over (cleared .1) refl refl refl (measured-over k refl refl refl M));
+        row₇ = rw e;
+        rows = record {
+          count = count-is;
+          few = few;
+          room = omega (arith, few, long′, T .long);
+          model = λ i l. T .others i 0 (omega arith) ∙ row-at i l .model;
+          depth = λ i l. T .others i 1 (omega arith) ∙ row-at i l .depth;
+          start = λ i l. T .others i 2 (omega arith) ∙ row-at i l .start;
+          below = λ i l z. rw (T .others i 4 (omega arith)) (row-at i l .above z .0);
+          above = λ i l z. rw (T .others i 4 (omega arith), T .others i 3 (omega arith)) (row-at i l .above z .1);
+          same = T .same;
+        };
+        offsets = λ path i m h.
+            let p = in-submodels s (definitionAt s path) m h .placed in
+            T .kept .as-was m 7 p (omega arith) refl ∙ cleared .1 .as-was m 7 p (omega arith) refl ∙ offset-at path i m h;
+        firsts = T .firsts;
+      }

@@ -4,4 +4,4 @@ pub mod Faults
 pub mod Numbers
 pub mod Walk
 pub mod Resolve
-pub mod Counts
+pub mod Planted

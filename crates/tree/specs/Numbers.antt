@@ -1,25 +1,18 @@
--- The tree in numbers: how many elements come before each, and the table of the instances.
+-- The tree in numbers: how many elements come before each.
 -- Assumes nothing.
-use Prim.Native.Nat.{_*_, _+_, _<_, _≤_, suc, zero, ℕ}
-use lib.Dec.{eqb}
-use lib.ListN.{getD, length}
-use mathlib.Core.Bool.{false, true}
-use mathlib.Core.List.{List, [], _++_, _∷_}
+use Prim.Native.Nat.{_+_, suc, zero, ℕ}
+use lib.ListN.{length}
+use mathlib.Core.List.{List, [], _∷_}
 use mathlib.Core.Option.{none, some}
-use mathlib.Core.Path.{_≡_}
 use Rattle.recipe.specs.Definitions.{elements, holder, main, modelOf, submodels}
 use Rattle.recipe.specs.Records.{Recipe}
-use Rattle.tree.specs.Tree.{Node, definitionAt, definitionBelow, instances, mostDepth, target}
+use Rattle.shadow.specs.Columns.{order, upTo}
+use Rattle.tree.specs.Tree.{Node, definitionAt, definitionBelow, mostDepth, target}
 
 -- f of each, added
 abbrev pub total : (ℕ → ℕ) → List ℕ → ℕ
 total f [] = 0
 total f (x ∷ xs) = f x + total f xs
-
--- f of each before a, added
-abbrev pub upTo : (ℕ → ℕ) → ℕ → List ℕ → ℕ
-upTo f a [] = 0
-upTo f a (x ∷ xs) = elim (eqb x a) [ true ↦ 0 | false ↦ f x + upTo f a xs ]
 
 -- n numbers from k on
 abbrev pub run : ℕ → ℕ → List ℕ
@@ -48,10 +41,6 @@ firstBelow s d (m ∷ path) = ahead s d m + firstBelow s (modelOf s m) path
 unfoldable pub firstAt : Recipe → List ℕ → ℕ
 firstAt s path = firstBelow s main path
 
--- an element's number within its definition
-unfoldable pub order : Recipe → ℕ → ℕ → ℕ
-order s d e = upTo (λ k. 1) e (elements s d)
-
 -- an element's number in the tree
 unfoldable pub number : Recipe → Node → ℕ
 number s x = firstAt s (x .path) + order s (definitionAt s (x .path)) (x .place)
@@ -63,17 +52,3 @@ numberIn s d x = firstBelow s d (x .path) + order s (definitionBelow s d (x .pat
 -- the number of a port's or mark's target, counted from its instance's first element
 unfoldable pub reach : Recipe → ℕ → ℕ
 reach s p = elim (target s p) [ none ↦ 0 | some t ↦ numberIn s (holder s p) t ]
-
--- of each instance but main's its submodel record and the number of the instance around it, which comes before it (columns 3 and 4 of five)
-abbrev pub Above : Recipe → List ℕ → ℕ → Type 0
-Above s inst n = (i : ℕ) → i < n → 0 < i
-    → (getD inst (5 * i + 4) 0 < i) × (getD (instances s) i [] ≡ getD (instances s) (getD inst (5 * i + 4) 0) [] ++ (getD inst (5 * i + 3) 0 ∷ []))
-
--- the instances: five numbers each, in tree order: definition, depth, number of the first element, submodel record, instance around it
-pub record Instances (s : Recipe) (inst : List ℕ) (n : ℕ) : Type 0 where
-  pub count : n ≡ length (instances s)
-  pub few : n ≤ 64
-  pub model : (i : ℕ) → i < n → getD inst (5 * i) 0 ≡ definitionAt s (getD (instances s) i [])
-  pub depth : (i : ℕ) → i < n → getD inst (5 * i + 1) 0 ≡ length (getD (instances s) i [])
-  pub start : (i : ℕ) → i < n → getD inst (5 * i + 2) 0 ≡ firstAt s (getD (instances s) i [])
-  pub above : Above s inst n

@@ -1,23 +1,48 @@
 // The tree of a recipe: its instances, the targets of ports and marks, and the refusals 7, 8 and 10.
-// For the floors above: plant, count_elements, first_untargeted, first_misclassed. They take the name width w, and tables by place that the floor below fills.
+// For the floors above: plant, first_untargeted, first_misclassed, and the columns of an instance's row. They take the name width w, the shadow t and, for the rows of the instances, inst.
 ghost use mathlib.Core.Path.{_≡_};
-ghost use mathlib.Core.Bool.{true, false, not, _||_};
+ghost use mathlib.Core.Bool.{true, false, not};
 ghost use mathlib.Core.List.{[], _∷_};
-ghost use Prim.Native.Nat.{_*_, _≤_, _<_};
-ghost use lib.ListN.{length};
+ghost use Prim.Native.Nat.{_*_, _+_, _≤_, _<_};
+ghost use lib.ListN.{length, getD, set};
 ghost use lib.Seq.{sets};
 ghost use Rattle.names.specs.Lists.{In};
-ghost use Rattle.names.specs.Names.{isBlank};
 ghost use Rattle.names.specs.Scans.{foundOf};
-ghost use Rattle.recipe.specs.Records.{Recipe, places, isMark, isPort, submodelField};
-ghost use Rattle.recipe.specs.Definitions.{definitions, main};
+ghost use Rattle.recipe.specs.Records.{recipeAt, places};
+ghost use Rattle.recipe.specs.Definitions.{holder};
+ghost use Rattle.shadow.specs.Shadow.{Shadowed, Kept, Cell};
+ghost use Rattle.shadow.specs.Columns.{Numbered, Measured};
 ghost use Rattle.tree.specs.Faults.{isTooLarge, fault₈, fault₁₀};
-ghost use Rattle.tree.specs.Numbers.{Instances};
 ghost use Rattle.tree.specs.Tree.{treeElements};
-ghost use Rattle.tree.specs.Walk.{over, Ground, Grown, Long, Offsets};
-ghost use Rattle.tree.specs.Counts.{Countable, Counted};
-ghost use Rattle.tree.specs.Resolve.{Names, Measured, Resolved, Numbered, Aims, Linked};
+ghost use Rattle.tree.specs.Walk.{over, submodelAfter, WalkRequires, Grown, WalkKeeps};
+ghost use Rattle.tree.specs.Planted.{Planted, ThreadRequires, Threaded, Aimed};
+ghost use Rattle.tree.specs.Resolve.{OffsetOf, ResolveRequires, Resolved, TargetNumbers};
 use names::Found;
+use shadow::cell;
+use shadow::set_cell;
+
+// The columns of an instance's row.
+pub const DEFINITION: usize = 0;
+
+pub const DEPTH: usize = 1;
+
+pub const FIRST_ELEMENT: usize = 2;
+
+pub const SUBMODEL_RECORD: usize = 3;
+
+pub const AROUND: usize = 4;
+
+pub const NEXT_SAME: usize = 5;
+
+// Row 7's limits.
+const MOST_DEPTH: usize = 4;
+
+const MOST_INSTANCES: usize = 64;
+
+const MOST_ELEMENTS: usize = 1024;
+
+// One more than the greatest number of a cell.
+const CELL_END: usize = 65536;
 
 // What a walk answers: whether the tree fits, and how many instances and elements there are with those before.
 pub struct Walked {
@@ -37,266 +62,223 @@ fn walk_answer(ok: bool, insts: usize, elems: usize) -> Walked
     }
 }
 
-// Writes the row of instance i: its definition, its depth, the number of its first element, its submodel record's place, and the instance around it.
-fn put_row(
-    inst: &mut [u16; 320],
-    i: usize,
-    d: usize,
-    depth: usize,
-    e: usize,
-    sub: usize,
-    around: usize,
-)
-    requires { ⌜ (i < 64) × ((d < 65536) × ((depth < 65536) × ((e < 65536) × ((sub < 65536) × ((around < 65536) × (length (now inst) ≡ 320)))))) ⌝ }
-    ensures { λ r. ⌜ now (inst .exit) ≡ sets (now (inst .entry)) (5 * i) (d ∷ depth ∷ e ∷ sub ∷ around ∷ []) ⌝ }
+// Writes the row of instance i: its definition, its depth, the number of its first element, its submodel record and the instance around it; no next one yet.
+fn put_row(inst: &mut [u16], i: usize, d: usize, depth: usize, e: usize, sub: usize, around: usize)
+    requires { ⌜ (6 * i + 6 ≤ length (now inst)) × ((i < 65536) × ((d < 65536) × ((depth < 65536) × ((e < 65536) × ((sub < 65536) × (around < 65536)))))) ⌝ }
+    ensures { λ _. ⌜ now (inst .exit) ≡ sets (now (inst .entry)) (6 * i) (d ∷ depth ∷ e ∷ sub ∷ around ∷ 0 ∷ []) ⌝ }
 {
-    inst[5 * i] = d as u16;
-    inst[5 * i + 1] = depth as u16;
-    inst[5 * i + 2] = e as u16;
-    inst[5 * i + 3] = sub as u16;
-    inst[5 * i + 4] = around as u16;
+    set_cell(inst, 6 * i, DEFINITION, d);
+    set_cell(inst, 6 * i, DEPTH, depth);
+    set_cell(inst, 6 * i, FIRST_ELEMENT, e);
+    set_cell(inst, 6 * i, SUBMODEL_RECORD, sub);
+    set_cell(inst, 6 * i, AROUND, around);
+    set_cell(inst, 6 * i, NEXT_SAME, 0);
 }
 
-// The tree below an instance of d, of the submodel record `sub` of instance `around`: its rows from i on, its elements numbered from e on; `left` deep at most.
+// The next submodel behind the record at p, of the same definition; the recipe's length where there is none.
+fn next_submodel(s: &[u8], w: usize, t: &[u16], p: usize) -> usize
+    requires { ⌜ Numbered (recipeAt w (now s)) (now t) × In p (places (recipeAt w (now s))) ⌝ }
+    ensures { λ r. ⌜ r ≡ submodelAfter (recipeAt w (now (s .entry))) (holder (recipeAt w (now (s .entry))) p) p ⌝ }
+{
+    let d = cell(t, p, shadow::DEFINITION_OF);
+    let mut q = p + recipe::record_length(s[p], w);
+    while q < s.len() {
+        if cell(t, q, shadow::DEFINITION_OF) != d {
+            return s.len();
+        }
+        let k = s[q];
+        if k == 4 {
+            return q;
+        }
+        q += recipe::record_length(k, w);
+    }
+    s.len()
+}
+
+// The tree below the instance of row i, which is written: the rows behind it, its elements numbered from e on, and the offsets of its submodels; `left` deep at most.
 fn walk(
     s: &[u8],
     w: usize,
-    hold: &[u16; 16384],
-    model: &[u16; 16384],
-    count: &[u16; 16384],
-    d: usize,
-    left: usize,
+    t: &mut [u16],
+    inst: &mut [u16],
     i: usize,
     e: usize,
-    sub: usize,
-    around: usize,
-    inst: &mut [u16; 320],
-    off: &mut [u16; 16384],
+    left: usize,
 ) -> Walked
-    requires { ⌜ Ground (record { width = w; bytes = now s }) (now hold) (now model) (now count) × (In d (definitions (record { width = w; bytes = now s })) × ((left ≤ 4) × ((e ≤ 1024) × ((sub < 65536) × ((around < 65536) × Long (now inst) (now off)))))) ⌝ }
-    ensures { λ r. ⌜ (r .ok ≡ not (over left (record { width = w; bytes = now (s .entry) }) d i e)) × ((r .ok ≡ true → Grown (record { width = w; bytes = now (s .entry) }) left d i e sub around (now (inst .entry)) (now (off .entry)) (now (inst .exit)) (now (off .exit)) (r .insts) (r .elems)) × Long (now (inst .exit)) (now (off .exit))) ⌝ }
+    requires { ⌜ WalkRequires (recipeAt w (now s)) (now t) (now inst) i e left ⌝ }
+    ensures { λ r. ⌜ (r .ok ≡ not (over left (recipeAt w (now (s .entry))) (getD (now (inst .entry)) (6 * i + 0) 0) i e)) × ((r .ok ≡ true → Grown (recipeAt w (now (s .entry))) left (getD (now (inst .entry)) (6 * i + 0) 0) i e (now (t .entry)) (now (inst .entry)) (now (t .exit)) (now (inst .exit)) (r .insts) (r .elems)) × WalkKeeps (recipeAt w (now (s .entry))) (now (t .entry)) (now (inst .entry)) (now (t .exit)) (now (inst .exit))) ⌝ }
 {
-    let c = recipe::wide(count[d]);
-    if i >= 64 {
-        return walk_answer(false, 0, 0);
-    }
-    if c > 1024 - e {
-        return walk_answer(false, 0, 0);
-    }
-    put_row(inst, i, d, 4 - left, e, sub, around);
+    let d = cell(inst, 6 * i, DEFINITION);
     let mut j = i + 1;
-    let mut x = e + c;
-    let mut p = d + recipe::record_length(1, w);
+    let mut x = e + cell(t, d, shadow::ELEMENT_COUNT);
+    let mut p = next_submodel(s, w, t, d);
     while p < s.len() {
-        if recipe::wide(hold[p]) != d {
-            return walk_answer(true, j, x);
+        let m = cell(t, p, shadow::MODEL);
+        let c = cell(t, m, shadow::ELEMENT_COUNT);
+        if (left == 0) | (j >= MOST_INSTANCES) | (c > MOST_ELEMENTS - x) {
+            return walk_answer(false, 0, 0);
         }
-        let k = s[p];
-        if k == 4 {
-            if left == 0 {
-                return walk_answer(false, 0, 0);
-            }
-            off[p] = (x - e) as u16;
-            let m = recipe::wide(model[p]);
-            let t = walk(s, w, hold, model, count, m, left - 1, j, x, p, i, inst, off);
-            let ok = t.ok;
-            if !ok {
-                return walk_answer(false, 0, 0);
-            }
-            j = t.insts;
-            x = t.elems;
-            p += recipe::record_length(4, w);
-        } else {
-            p += recipe::record_length(k, w);
+        set_cell(t, p, shadow::ELEMENT_OFFSET, x - e);
+        put_row(inst, j, m, MOST_DEPTH - (left - 1), x, p, i);
+        let r = walk(s, w, t, inst, j, x, left - 1);
+        let ok = r.ok;
+        if !ok {
+            return walk_answer(false, 0, 0);
         }
+        j = r.insts;
+        x = r.elems;
+        p = next_submodel(s, w, t, p);
     }
     walk_answer(true, j, x)
 }
 
+// Clears cell k of each record.
+fn clear_cells(s: &[u8], w: usize, t: &mut [u16], k: usize)
+    requires { ⌜ Shadowed (recipeAt w (now s)) (now t) × (k < 13) ⌝ }
+    ensures { λ _. ⌜ Cell (places (recipeAt w (now (s .entry)))) k (λ p. 0) (now (t .exit)) × Kept (recipeAt w (now (s .entry))) (k ∷ []) (now (t .entry)) (now (t .exit)) ⌝ }
+{
+    let mut p = 0;
+    while p < s.len() {
+        set_cell(t, p, k, 0);
+        p += recipe::record_length(s[p], w);
+    }
+}
+
+// Threads the n instances of the recipe s, of name width w, from the last to the first: each definition's first instance, and each instance's next one of its definition.
+fn thread_instances(s: &[u8], w: usize, t: &mut [u16], inst: &mut [u16], n: usize)
+    requires { ⌜ ThreadRequires (recipeAt w (now s)) (now t) (now inst) n ⌝ }
+    ensures { λ _. ⌜ Threaded (recipeAt w (now (s .entry))) (now (t .entry)) (now (inst .entry)) (now (t .exit)) (now (inst .exit)) n ⌝ }
+{
+    let mut i = n;
+    while i > 0 {
+        i -= 1;
+        let d = cell(inst, 6 * i, DEFINITION);
+        let next = cell(t, d, shadow::FIRST_INSTANCE);
+        set_cell(inst, 6 * i, NEXT_SAME, next);
+        set_cell(t, d, shadow::FIRST_INSTANCE, i + 1);
+    }
+}
+
 // What planting answers: whether the tree is too large, and how many instances and elements it has.
-pub struct Planted {
+pub struct Planting {
     pub large: bool,
     pub insts: usize,
     pub elems: usize,
 }
 
-// Row 7, and the tables of instances and of submodels' offsets.
-pub fn plant(
-    s: &[u8],
-    w: usize,
-    hold: &[u16; 16384],
-    model: &[u16; 16384],
-    count: &[u16; 16384],
-    inst: &mut [u16; 320],
-    off: &mut [u16; 16384],
-) -> Planted
-    requires { ⌜ Ground (record { width = w; bytes = now s }) (now hold) (now model) (now count) × (In main (definitions (record { width = w; bytes = now s })) × Long (now inst) (now off)) ⌝ }
-    ensures { λ r. ⌜ (r .large ≡ isTooLarge (record { width = w; bytes = now (s .entry) })) × ((r .large ≡ false → Instances (record { width = w; bytes = now (s .entry) }) (now (inst .exit)) (r .insts) × (Offsets (record { width = w; bytes = now (s .entry) }) (now (off .exit)) × (r .elems ≡ length (treeElements (record { width = w; bytes = now (s .entry) }))))) × Long (now (inst .exit)) (now (off .exit))) ⌝ }
+// The answer of planting.
+fn plant_answer(large: bool, insts: usize, elems: usize) -> Planting
+    ensures { λ r. ⌜ (r .large ≡ large) × ((r .insts ≡ insts) × (r .elems ≡ elems)) ⌝ }
 {
-    let t = walk(s, w, hold, model, count, 0, 4, 0, 0, 0, 0, inst, off);
-    let ok = t.ok;
-    let n = t.insts;
-    let x = t.elems;
-    Planted {
-        large: !ok,
-        insts: n,
-        elems: x,
+    Planting {
+        large: large,
+        insts: insts,
+        elems: elems,
     }
 }
 
-// How many elements each definition has, and each element's number in its definition.
-pub fn count_elements(
-    s: &[u8],
-    w: usize,
-    hold: &[u16; 16384],
-    count: &mut [u16; 16384],
-    ord: &mut [u16; 16384],
-)
-    requires { ⌜ Countable (record { width = w; bytes = now s }) (now hold) (now count) (now ord) ⌝ }
-    ensures { λ r. ⌜ Counted (record { width = w; bytes = now (s .entry) }) (now (count .exit)) (now (ord .exit)) ⌝ }
+// Row 7; the rows of the instances, the offsets of the submodels, and the instances of each definition.
+pub fn plant(s: &[u8], w: usize, t: &mut [u16], inst: &mut [u16]) -> Planting
+    requires { ⌜ Measured (recipeAt w (now s)) (now t) × ((0 < length (now s)) × (6 * 64 ≤ length (now inst))) ⌝ }
+    ensures { λ r. ⌜ (r .large ≡ isTooLarge (recipeAt w (now (s .entry)))) × ((r .large ≡ false → Planted (recipeAt w (now (s .entry))) (now (t .exit)) (now (inst .exit)) (r .insts) × (r .elems ≡ length (treeElements (recipeAt w (now (s .entry)))))) × ((length (now (t .exit)) ≡ length (now (t .entry))) × (length (now (inst .exit)) ≡ length (now (inst .entry))))) ⌝ }
 {
-    let mut p = 0;
-    while p < s.len() {
-        let k = s[p];
-        if k == 1 {
-            count[p] = 0;
-            p += recipe::record_length(k, w);
-        } else if k == 2 {
-            let d = recipe::wide(hold[p]);
-            let c = count[d];
-            ord[p] = c;
-            count[d] = c + 1;
-            p += recipe::record_length(k, w);
-        } else {
-            p += recipe::record_length(k, w);
-        }
+    if cell(t, 0, shadow::ELEMENT_COUNT) > MOST_ELEMENTS {
+        return plant_answer(true, 0, 0);
     }
+    put_row(inst, 0, 0, 0, 0, 0, 0);
+    let r = walk(s, w, t, inst, 0, 0, MOST_DEPTH);
+    let grown = r.ok;
+    let n = r.insts;
+    let x = r.elems;
+    if !grown {
+        return plant_answer(true, 0, 0);
+    }
+    clear_cells(s, w, t, shadow::FIRST_INSTANCE);
+    thread_instances(s, w, t, inst, n);
+    plant_answer(false, n, x)
 }
 
-// What resolving answers: whether there is a target, its place, and its number from the first element of the instance.
-pub struct Target {
-    pub ok: bool,
-    pub place: usize,
-    pub num: usize,
-}
-
-// The target of the mark or port at r, which names a submodel, by at most n records.
-fn resolve_reference(
-    s: &[u8],
-    w: usize,
-    sub: &[u16; 16384],
-    nxt: &[u16; 16384],
-    ord: &[u16; 16384],
-    off: &[u16; 16384],
-    r: usize,
-    n: usize,
-) -> Target
-    requires { ⌜ Names (record { width = w; bytes = now s }) (now sub) (now nxt) (now ord) × (In r (places (record { width = w; bytes = now s })) × ((isMark (record { width = w; bytes = now s }) r || isPort (record { width = w; bytes = now s }) r ≡ true) × ((n ≤ 65535) × ((isBlank (submodelField (record { width = w; bytes = now s }) r) ≡ false) × (n ≡ 0 → ⊥))))) ⌝ }
-    ensures { λ a. ⌜ Resolved (record { width = w; bytes = now (s .entry) }) (now (off .entry)) n r (a .ok) (a .place) (a .num) ⌝ }
+// Two numbers of cells, added; 0 where the sum does not fit a cell.
+fn add_numbers(f: usize, g: usize) -> usize
+    requires { ⌜ (f < 65536) × (g < 65536) ⌝ }
+    ensures { λ r. ⌜ (r < 65536) × (f + g < 65536 → r ≡ f + g) ⌝ }
 {
-    let x = recipe::wide(nxt[r]);
+    let v = f + g;
+    if v < CELL_END {
+        return v;
+    }
+    0
+}
+
+// The elements of the instance of the port or mark at r that come before the subtree it names; 0 where it names none.
+fn offset_of(t: &[u16], r: usize) -> usize
+    requires { ⌜ (r + 4 < length (now t)) × (getD (now t) (r + 4) 0 + 7 < length (now t)) ⌝ }
+    ensures { λ f. ⌜ OffsetOf (now (t .entry)) r f ⌝ }
+{
+    let m = cell(t, r, shadow::SUBMODEL);
+    if m == 0 {
+        return 0;
+    }
+    cell(t, m, shadow::ELEMENT_OFFSET)
+}
+
+// Keeps the target of the port or mark at r; it has one.
+fn keep_target(t: &mut [u16], r: usize, place: usize, num: usize) -> bool
+    requires { ⌜ (r + 10 < length (now t)) × ((place < 65536) × (num < 65536)) ⌝ }
+    ensures { λ ok. ⌜ (ok ≡ true) × (now (t .exit) ≡ set (set (now (t .entry)) (r + 9) num) (r + 10) place) ⌝ }
+{
+    set_cell(t, r, shadow::TARGET_NUMBER, num);
+    set_cell(t, r, shadow::TARGET, place);
+    true
+}
+
+// Whether the port or mark at q has a target, which is kept in its cells: as they have it, or by what it names.
+fn resolve_port(s: &[u8], w: usize, t: &mut [u16], q: usize) -> bool
+    requires { ⌜ ResolveRequires (recipeAt w (now s)) (now t) q ⌝ }
+    ensures { λ ok. ⌜ Resolved (recipeAt w (now (s .entry))) (now (t .entry)) (now (t .exit)) q ok ⌝ }
+{
+    if cell(t, q, shadow::TARGET) != 0 {
+        return true;
+    }
+    resolve_reference(s, w, t, q)
+}
+
+// Whether the port or mark at r has a target, by the record that it names: an element is the target; of a port, its target is.
+fn resolve_reference(s: &[u8], w: usize, t: &mut [u16], r: usize) -> bool
+    requires { ⌜ ResolveRequires (recipeAt w (now s)) (now t) r ⌝ }
+    ensures { λ ok. ⌜ Resolved (recipeAt w (now (s .entry))) (now (t .entry)) (now (t .exit)) r ok ⌝ }
+{
+    let x = cell(t, r, shadow::NAMED_RECORD);
     if x == 0 {
-        return Target {
-            ok: false,
-            place: 0,
-            num: 0,
-        };
+        return false;
     }
-    let m = recipe::wide(sub[r]);
-    let f = recipe::wide(off[m]);
+    let f = offset_of(t, r);
     if s[x] == 2 {
-        let g = recipe::wide(ord[x]);
-        return Target {
-            ok: true,
-            place: x,
-            num: f + g,
-        };
+        let g = cell(t, x, shadow::ELEMENT_ORDER);
+        return keep_target(t, r, x, add_numbers(f, g));
     }
-    let t = resolve_port(s, w, sub, nxt, ord, off, x, n - 1);
-    let ok = t.ok;
-    let place = t.place;
-    let num = t.num;
-    Target {
-        ok: ok,
-        place: place,
-        num: f + num,
+    if !resolve_port(s, w, t, x) {
+        return false;
     }
+    let place = cell(t, x, shadow::TARGET);
+    let num = cell(t, x, shadow::TARGET_NUMBER);
+    keep_target(t, r, place, add_numbers(f, num))
 }
 
-// The target of the port or mark at q, by at most n records.
-fn resolve_port(
-    s: &[u8],
-    w: usize,
-    sub: &[u16; 16384],
-    nxt: &[u16; 16384],
-    ord: &[u16; 16384],
-    off: &[u16; 16384],
-    q: usize,
-    n: usize,
-) -> Target
-    requires { ⌜ Names (record { width = w; bytes = now s }) (now sub) (now nxt) (now ord) × (In q (places (record { width = w; bytes = now s })) × ((isMark (record { width = w; bytes = now s }) q || isPort (record { width = w; bytes = now s }) q ≡ true) × (n ≤ 65535))) ⌝ }
-    ensures { λ a. ⌜ Resolved (record { width = w; bytes = now (s .entry) }) (now (off .entry)) n q (a .ok) (a .place) (a .num) ⌝ }
+// Row 8: the first mark or port without a target; the places and numbers of the others' targets. Each port is resolved once.
+pub fn first_untargeted(s: &[u8], w: usize, t: &mut [u16]) -> Found
+    requires { ⌜ Measured (recipeAt w (now s)) (now t) ⌝ }
+    ensures { λ r. ⌜ (r ≡ foundOf (fault₈ (recipeAt w (now (s .entry))))) × ((r ≡ Found.Nothing → Aimed (recipeAt w (now (s .entry))) (now (t .exit)) × TargetNumbers (recipeAt w (now (s .entry))) (now (t .exit))) × Kept (recipeAt w (now (s .entry))) (9 ∷ 10 ∷ []) (now (t .entry)) (now (t .exit))) ⌝ }
 {
-    if n == 0 {
-        return Target {
-            ok: false,
-            place: 0,
-            num: 0,
-        };
-    }
-    if recipe::wide(sub[q]) != 0 {
-        return resolve_reference(s, w, sub, nxt, ord, off, q, n);
-    }
-    let x = recipe::wide(nxt[q]);
-    if x == 0 {
-        return Target {
-            ok: false,
-            place: 0,
-            num: 0,
-        };
-    }
-    let g = recipe::wide(ord[x]);
-    Target {
-        ok: true,
-        place: x,
-        num: g,
-    }
-}
-
-// Row 8: the first mark or port without a target, by no more records than its definition is high; the numbers and the places of the others' targets.
-pub fn first_untargeted(
-    s: &[u8],
-    w: usize,
-    sub: &[u16; 16384],
-    nxt: &[u16; 16384],
-    ord: &[u16; 16384],
-    off: &[u16; 16384],
-    hold: &[u16; 16384],
-    height: &[u16; 16384],
-    rel: &mut [u16; 16384],
-    aims: &mut [u16; 16384],
-) -> Found
-    requires { ⌜ Names (record { width = w; bytes = now s }) (now sub) (now nxt) (now ord) × (Measured (record { width = w; bytes = now s }) (now hold) (now height) × ((length (now rel) ≡ 16384) × (length (now aims) ≡ 16384))) ⌝ }
-    ensures { λ r. ⌜ (r ≡ foundOf (fault₈ (record { width = w; bytes = now (s .entry) }))) × (r ≡ Found.Nothing → Numbered (record { width = w; bytes = now (s .entry) }) (now (off .entry)) (now (rel .exit)) (length (now (s .entry))) × Aims (record { width = w; bytes = now (s .entry) }) (now (aims .exit)) (length (now (s .entry)))) ⌝ }
-{
+    clear_cells(s, w, t, shadow::TARGET);
     let mut p = 0;
     while p < s.len() {
         let k = s[p];
         if recipe::is_pointer(k) {
-            let n = recipe::wide(height[recipe::wide(hold[p])]);
-            let t = resolve_port(s, w, sub, nxt, ord, off, p, n);
-            let ok = t.ok;
-            let num = t.num;
-            if !ok {
+            if !resolve_port(s, w, t, p) {
                 return Found::At(p);
             }
-            aims[p] = t.place as u16;
-            if num < 65536 {
-                rel[p] = num as u16;
-                p += recipe::record_length(k, w);
-            } else {
-                p += recipe::record_length(k, w);
-            }
+            p += recipe::record_length(k, w);
         } else {
             p += recipe::record_length(k, w);
         }
@@ -304,17 +286,25 @@ pub fn first_untargeted(
     Found::Nothing
 }
 
+// The class of the element at e.
+fn class_of(s: &[u8], w: usize, e: usize) -> u8
+    requires { ⌜ (e + 1 + w < length (now s)) × (length (now s) ≤ 16384) ⌝ }
+    ensures { λ r. ⌜ r ≡ getD (now (s .entry)) (e + 1 + w) 0 ⌝ }
+{
+    s[e + 1 + w]
+}
+
 // Row 10: the first mark whose owner's and target's class differ.
-pub fn first_misclassed(s: &[u8], w: usize, own: &[u16; 16384], aims: &[u16; 16384]) -> Found
-    requires { ⌜ Linked (record { width = w; bytes = now s }) (now own) (now aims) ⌝ }
-    ensures { λ r. ⌜ r ≡ foundOf (fault₁₀ (record { width = w; bytes = now (s .entry) })) ⌝ }
+pub fn first_misclassed(s: &[u8], w: usize, t: &[u16]) -> Found
+    requires { ⌜ Aimed (recipeAt w (now s)) (now t) ⌝ }
+    ensures { λ r. ⌜ r ≡ foundOf (fault₁₀ (recipeAt w (now (s .entry)))) ⌝ }
 {
     let mut p = 0;
     while p < s.len() {
         let k = s[p];
         if recipe::is_owned(k) {
-            let a = s[recipe::wide(own[p]) + 1 + w];
-            let b = s[recipe::wide(aims[p]) + 1 + w];
+            let a = class_of(s, w, cell(t, p, shadow::OWNER));
+            let b = class_of(s, w, cell(t, p, shadow::TARGET));
             if a != b {
                 return Found::At(p);
             }

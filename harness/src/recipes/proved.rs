@@ -7,8 +7,8 @@ use std::iter::Peekable;
 use std::str::SplitWhitespace;
 use Value::*;
 
-const SAMPLES: &str = include_str!("../../../crates/composer/specs/Samples.antt");
-const PROOFS: &str = include_str!("../../../crates/composer/proofs/Starred.antt");
+const SAMPLES: &str = include_str!("../../../crates/samples/specs/Samples.antt");
+const PROOFS: &str = include_str!("../../../crates/samples/proofs/Starred.antt");
 
 /// A recipe, the length of the output, the verdict, and the flat table.
 pub struct Sample {

@@ -16,9 +16,6 @@ use Rattle.bandrolt.proofs.judge.Tie as tie
 returns : tie.Need-returns
 returns c = got-failed (toZ w64 (ofZ w64 (c .before .before .args .got))) (length (now (c .before .before .args .room))) (c .if1 .taken) ∙ ap (λ (z : ℤ). gotOf z (length (now (c .before .before .args .room)))) (toZ-ofZ (c .before .before .fits .got))
 
-count-requires : tie.Need-count-requires
-count-requires c κs = search needs
-
 returns-2 : tie.Need-returns-2
 returns-2 c = got-end (toZ w64 (ofZ w64 (c .before .before .before .before .args .got))) (length (now (c .before .before .before .before .args .room))) (c .before .before .if1 .left) (c .before .count .ensures .1) (c .if2 .taken) ∙ ap (λ (z : ℤ). gotOf z (length (now (c .before .before .before .before .args .room)))) (toZ-ofZ (c .before .before .before .before .fits .got))
 
@@ -26,4 +23,4 @@ returns-3 : tie.Need-returns-3
 returns-3 c = got-more (toZ w64 (ofZ w64 (c .before .before .before .before .args .got))) (length (now (c .before .before .before .before .args .room))) (c .before .before .if1 .left) (c .before .count .ensures .1) (c .if2 .left) ∙ ap (λ (z : ℤ). gotOf z (length (now (c .before .before .before .before .args .room)))) (toZ-ofZ (c .before .before .before .before .fits .got))
 
 pub judge-spec : {M : Type 1} → statement M
-judge-spec = tie.close (tie.spec returns count-requires returns-2 returns-3)
+judge-spec = tie.close (tie.spec returns (search needs) returns-2 returns-3)

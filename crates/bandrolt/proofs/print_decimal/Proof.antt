@@ -7,31 +7,12 @@ use borrow.Author.Needs.{needs}
 use Rattle.bandrolt.proofs.print_decimal.Statement.{statement}
 use Rattle.bandrolt.proofs.print_decimal.Tie as tie
 
-decimal-requires : tie.Need-decimal-requires
-decimal-requires c κs = search needs
-
-array-share-prefix-digits : tie.Need-array-share-prefix-digits
-array-share-prefix-digits c = search needs
-
-slice-aggregate-put : tie.Need-slice-aggregate-put
-slice-aggregate-put c = search needs
-
 put-requires : tie.Need-put-requires
 put-requires c κs = omega (arith, c .before .before .decimal .ensures .0, word-digits (c .before .before .decimal .result) (c .before .before .before .before .before .args .k) (c .before .before .before .before .before .fits .k .fits) (c .before .before .decimal .ensures .1 .0))
-
-same-length : tie.Need-same-length
-same-length c = search needs
 
 returns : tie.Need-returns
 returns c = decimal-stands (c .before .before .before .before .before .before .before .before .args .k) (c .before .before .before .before .before .decimal .result) (c .before .before .before .before .before .decimal .last .1 .0) (word-digits (c .before .before .before .before .before .decimal .result) (c .before .before .before .before .before .before .before .before .args .k) (c .before .before .before .before .before .before .before .before .fits .k .fits) (c .before .before .before .before .before .decimal .ensures .1 .0)) (c .before .before .before .before .before .decimal .ensures .0 .1) (c .before .before .before .before .before .decimal .ensures .1 .0) (c .before .before .before .before .before .decimal .ensures .1 .1) (c .before .before .put .ensures)
 
 pub print-decimal-spec : {M : Type 1} → statement M
-print-decimal-spec =
-    tie.close
-    (tie.spec
-    decimal-requires
-    array-share-prefix-digits
-    slice-aggregate-put
-    put-requires
-    same-length
+print-decimal-spec = tie.close (tie.spec (search needs) (search needs) (search needs) put-requires (search needs)
     returns)

@@ -6,14 +6,8 @@ use borrow.Author.Needs.{needs}
 use Rattle.bandrolt.proofs.print_kind.Statement.{statement}
 use Rattle.bandrolt.proofs.print_kind.Tie as tie
 
-print-decimal-requires : tie.Need-print-decimal-requires
-print-decimal-requires c κs = search needs
-
-same-length : tie.Need-same-length
-same-length c = search needs
-
 returns : tie.Need-returns
 returns c = kind-stands _ (omega arith) (c .before .before .print-decimal .ensures .0)
 
 pub print-kind-spec : {M : Type 1} → statement M
-print-kind-spec = tie.close (tie.spec print-decimal-requires same-length returns)
+print-kind-spec = tie.close (tie.spec (search needs) (search needs) returns)

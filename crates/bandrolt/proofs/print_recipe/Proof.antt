@@ -11,9 +11,6 @@ slice-aggregate-flatten : tie.Need-slice-aggregate-flatten
 unfolding inputRoom
 slice-aggregate-flatten c = read-length _ (c .before .before .before .before .args .input .now) (omega arith)
 
-flatten-requires : tie.Need-flatten-requires
-flatten-requires c κs = search needs
-
 slice-reshare-prefix-print-answer : tie.Need-slice-reshare-prefix-print-answer
 slice-reshare-prefix-print-answer c = told-within _ (c .before .before .before .before .before .before .before .before .args .table .now) (c .before .before .flatten .ensures .0) (c .before .before .flatten .ensures .1)
 
@@ -23,24 +20,9 @@ slice-aggregate-print-answer c = told-bytes _ (c .before .before .before .before
 print-answer-requires : tie.Need-print-answer-requires
 print-answer-requires c κs = (told-room _ (c .before .before .before .before .before .before .before .before .before .before .args .table .now) (c .before .before .before .before .flatten .ensures .0) (c .before .before .before .before .flatten .ensures .1) (c .before .before .before .before .before .before .before .before .before .before .pre .room), c .before .before .before .before .before .before .before .before .before .before .pre .space)
 
-same-length : tie.Need-same-length
-same-length c = search needs
-
-same-length-2 : tie.Need-same-length-2
-same-length-2 c = search needs
-
 returns : tie.Need-returns
 returns c = output-stands (c .before .before .before .before .before .before .before .before .before .before .before .before .before .args .input .now) (c .before .before .before .before .before .before .before .before .before .before .before .before .before .args .n) (c .before .before .before .before .before .before .before .before .before .before .before .before .before .args .table .now) (c .before .before .before .before .before .before .before .before .before .before .before .before .before .pre) (c .before .before .before .before .before .before .before .flatten .ensures .0) (c .before .before .before .before .before .before .before .flatten .ensures .1) (c .before .before .print-answer .ensures)
 
 pub print-recipe-spec : {M : Type 1} → statement M
-print-recipe-spec =
-    tie.close
-    (tie.spec
-    slice-aggregate-flatten
-    flatten-requires
-    slice-reshare-prefix-print-answer
-    slice-aggregate-print-answer
-    print-answer-requires
-    same-length
-    same-length-2
-    returns)
+print-recipe-spec = tie.close (tie.spec slice-aggregate-flatten (search needs) slice-reshare-prefix-print-answer
+    slice-aggregate-print-answer print-answer-requires (search needs) (search needs) returns)

@@ -6,48 +6,10 @@ use borrow.Author.Needs.{needs}
 use Rattle.bandrolt.proofs.print_refusal.Statement.{statement}
 use Rattle.bandrolt.proofs.print_refusal.Tie as tie
 
-slice-aggregate-put : tie.Need-slice-aggregate-put
-slice-aggregate-put c = search needs
-
-put-requires : tie.Need-put-requires
-put-requires c κs = search needs
-
-print-decimal-requires : tie.Need-print-decimal-requires
-print-decimal-requires c κs = search needs
-
-slice-aggregate-put-2 : tie.Need-slice-aggregate-put-2
-slice-aggregate-put-2 c = search needs
-
-put-requires-2 : tie.Need-put-requires-2
-put-requires-2 c κs = search needs
-
-print-decimal-requires-2 : tie.Need-print-decimal-requires-2
-print-decimal-requires-2 c κs = search needs
-
-slice-aggregate-put-3 : tie.Need-slice-aggregate-put-3
-slice-aggregate-put-3 c = search needs
-
-put-requires-3 : tie.Need-put-requires-3
-put-requires-3 c κs = search needs
-
-same-length : tie.Need-same-length
-same-length c = search needs
-
 returns : tie.Need-returns
 unfolding characters
 returns c = refusal-stands _ _ (c .before .before .before .before .before .before .before .before .before .before .before .before .before .before .before .before .before .before .before .before .put .ensures) (c .before .before .before .before .before .before .before .before .before .before .before .before .before .before .before .before .print-decimal .ensures .0) (c .before .before .before .before .before .before .before .before .before .before .before .put2 .ensures) (c .before .before .before .before .before .before .before .print-decimal2 .ensures .0) (c .before .before .put3 .ensures)
 
 pub print-refusal-spec : {M : Type 1} → statement M
-print-refusal-spec =
-    tie.close
-    (tie.spec
-    slice-aggregate-put
-    put-requires
-    print-decimal-requires
-    slice-aggregate-put-2
-    put-requires-2
-    print-decimal-requires-2
-    slice-aggregate-put-3
-    put-requires-3
-    same-length
-    returns)
+print-refusal-spec = tie.close (tie.spec (search needs) (search needs) (search needs) (search needs) (search needs)
+    (search needs) (search needs) (search needs) (search needs) returns)

@@ -1,5 +1,6 @@
 -- `bandrolt::print_rows` meets its contract: the invariant: the lines of the records before p are put there, and the others have room.
 -- Assumes nothing.
+use borrow.Author.Needs.{needs}
 use Prim.Native.Nat.{_-_}
 use lib.ListN.{length}
 use Rattle.bandrolt.proofs.Rows.{Going, going-start, going-more, going-end}
@@ -22,12 +23,6 @@ sub-loop c = c .loop .inv .inside
 print-row-requires : tie.Need-print-row-requires Inv-loop μ-loop
 print-row-requires c κs = (omega arith, omega arith)
 
-add-p : tie.Need-add-p Inv-loop μ-loop
-add-p c = omega arith
-
-loop-less : tie.Need-loop-less Inv-loop μ-loop
-loop-less c = omega arith
-
 loop-again : tie.Need-loop-again Inv-loop μ-loop
 loop-again c = going-more _ (c .before .before .before .before .before .loop .inv) (omega arith) (c .before .before .print-row .ensures)
 
@@ -38,16 +33,5 @@ returns : tie.Need-returns Inv-loop μ-loop
 returns c = going-end _ (c .before .loop .inv) (c .loop-test .left)
 
 pub print-rows-spec : {M : Type 1} → statement M
-print-rows-spec =
-    tie.close
-    (tie.spec
-    Inv-loop
-    μ-loop
-    loop-holds
-    sub-loop
-    print-row-requires
-    add-p
-    loop-less
-    loop-again
-    same-length
-    returns)
+print-rows-spec = tie.close (tie.spec Inv-loop μ-loop loop-holds sub-loop print-row-requires (search needs)
+    (search needs) loop-again same-length returns)

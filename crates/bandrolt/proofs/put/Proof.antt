@@ -5,17 +5,8 @@ use borrow.Author.Needs.{needs}
 use Rattle.bandrolt.proofs.put.Statement.{statement}
 use Rattle.bandrolt.proofs.put.Tie as tie
 
-put-bytes-requires : tie.Need-put-bytes-requires
-put-bytes-requires c κs = search needs
-
-add-result : tie.Need-add-result
-add-result c = search needs
-
-same-length : tie.Need-same-length
-same-length c = search needs
-
 returns : tie.Need-returns
 returns c = copied-stands (c .before .before .before .before .before .before .args .bytes .now) (c .before .before .before .before .before .before .args .text .now) (c .before .before .before .before .before .before .args .at) (c .before .before .before .before .before .before .pre) (c .before .before .put-bytes .ensures)
 
 pub put-spec : {M : Type 1} → statement M
-put-spec = tie.close (tie.spec put-bytes-requires add-result same-length returns)
+put-spec = tie.close (tie.spec (search needs) (search needs) (search needs) returns)

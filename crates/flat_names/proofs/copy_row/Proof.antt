@@ -1,5 +1,6 @@
 -- `flat_names::copy_row` meets its contract: the invariant: k bytes are copied.
 -- Assumes nothing.
+use borrow.Author.Needs.{needs}
 use Prim.Native.Nat.{_-_, _≤_}
 use native.Mathlib.Omega.{arith}
 use mathlib.Core.Path.{_≡_}
@@ -17,42 +18,21 @@ abbrev μ-loop : tie.MeasureT-loop
 loop-holds : tie.Need-loop-holds Inv-loop μ-loop
 loop-holds c = (omega arith, copied-start _ _ _ _)
 
-add-pre : tie.Need-add-pre Inv-loop μ-loop
-add-pre c = omega arith
+slice-read-pre : tie.Need-slice-read-pre Inv-loop μ-loop
+slice-read-pre c = omega (arith, c .before .before .loop .inv .1 .long)
 
-element-copy-out-pre : tie.Need-element-copy-out-pre Inv-loop μ-loop
-element-copy-out-pre c = omega arith
-
-add-pre-2 : tie.Need-add-pre-2 Inv-loop μ-loop
-add-pre-2 c = omega arith
-
-element-write-pre : tie.Need-element-write-pre Inv-loop μ-loop
-element-write-pre c = omega arith
-
-add-k : tie.Need-add-k Inv-loop μ-loop
-add-k c = omega arith
-
-loop-less : tie.Need-loop-less Inv-loop μ-loop
-loop-less c = omega arith
+slice-write-pre : tie.Need-slice-write-pre Inv-loop μ-loop
+slice-write-pre c = omega (arith, c .before .before .loop .inv .1 .long)
 
 loop-again : tie.Need-loop-again Inv-loop μ-loop
-loop-again c = (omega arith, within-one (c .before .before .loop .inv .1) (omega arith) (omega (arith, c .before .before .before .pre .0)))
+loop-again c = (omega arith, within-one (c .before .before .loop .inv .1) (omega arith) (omega arith))
+
+same-length : tie.Need-same-length Inv-loop μ-loop
+same-length c = c .before .loop .inv .1 .long
 
 returns : tie.Need-returns Inv-loop μ-loop
 returns c = let i = c .before .loop .inv in let e : c .before .loop .k ≡ c .before .before .args .l = omega (arith, i .0) in rw e at (i .1 .is)
 
 pub copy-row-spec : {M : Type 1} → statement M
-copy-row-spec =
-    tie.close
-    (tie.spec
-    Inv-loop
-    μ-loop
-    loop-holds
-    add-pre
-    element-copy-out-pre
-    add-pre-2
-    element-write-pre
-    add-k
-    loop-less
-    loop-again
-    returns)
+copy-row-spec = tie.close (tie.spec Inv-loop μ-loop loop-holds (search needs) slice-read-pre (search needs)
+    slice-write-pre (search needs) (search needs) loop-again same-length returns)

@@ -1,5 +1,6 @@
 -- `flat_names::count_underscores` meets its contract: the invariant: the first k bytes are underscores.
 -- Assumes nothing.
+use borrow.Author.Needs.{needs}
 use mathlib.Core.Path.{_≡_}
 use Prim.Native.Nat.{ℕ, _+_, _-_, _≤_, _<_}
 use native.Mathlib.Omega.{arith}
@@ -18,20 +19,8 @@ abbrev μ-loop : tie.MeasureT-loop
 loop-holds : tie.Need-loop-holds Inv-loop μ-loop
 loop-holds c = (omega arith, λ j h. absurd (omega arith))
 
-add-if1 : tie.Need-add-if1 Inv-loop μ-loop
-add-if1 c = omega arith
-
-shared-slice-read-if1 : tie.Need-shared-slice-read-if1 Inv-loop μ-loop
-shared-slice-read-if1 c = omega arith
-
 returns : tie.Need-returns Inv-loop μ-loop
 returns c = counted (c .before .before .before .before .args .s .now) (c .before .before .before .before .args .a) (c .before .before .before .before .args .n) (c .before .before .before .loop .k) (c .before .before .before .before .pre) (c .before .before .before .loop .inv .0) (c .before .before .before .loop .inv .1) (λ l. c .if1 .taken)
-
-add-k : tie.Need-add-k Inv-loop μ-loop
-add-k c = omega arith
-
-loop-less : tie.Need-loop-less Inv-loop μ-loop
-loop-less c = omega arith
 
 loop-again : tie.Need-loop-again Inv-loop μ-loop
 loop-again c = (omega arith, below-more _ _ (c .before .before .before .loop .inv .1) (c .if1 .left))
@@ -40,16 +29,5 @@ returns-2 : tie.Need-returns-2 Inv-loop μ-loop
 returns-2 c = counted (c .before .before .args .s .now) (c .before .before .args .a) (c .before .before .args .n) (c .before .loop .k) (c .before .before .pre) (c .before .loop .inv .0) (c .before .loop .inv .1) (λ l. absurd (omega (arith, c .loop-test .left)))
 
 pub count-underscores-spec : {M : Type 1} → statement M
-count-underscores-spec =
-    tie.close
-    (tie.spec
-    Inv-loop
-    μ-loop
-    loop-holds
-    add-if1
-    shared-slice-read-if1
-    returns
-    add-k
-    loop-less
-    loop-again
-    returns-2)
+count-underscores-spec = tie.close (tie.spec Inv-loop μ-loop loop-holds (search needs) (search needs) returns
+    (search needs) (search needs) loop-again returns-2)

@@ -1,5 +1,6 @@
 -- `flat_names::put_same` meets its contract: the invariant: k bytes are written.
 -- Assumes nothing.
+use borrow.Author.Needs.{needs}
 use Prim.Native.Nat.{_-_, _≤_}
 use native.Mathlib.Omega.{arith}
 use mathlib.Core.Path.{_≡_}
@@ -22,12 +23,6 @@ add-out c = omega (arith, c .before .loop .inv .1 .long)
 slice-write-out : tie.Need-slice-write-out Inv-loop μ-loop
 slice-write-out c = omega (arith, c .before .loop .inv .1 .long)
 
-add-k : tie.Need-add-k Inv-loop μ-loop
-add-k c = omega arith
-
-loop-less : tie.Need-loop-less Inv-loop μ-loop
-loop-less c = omega arith
-
 loop-again : tie.Need-loop-again Inv-loop μ-loop
 loop-again c = (omega arith, repeated-one (c .before .loop .inv .1))
 
@@ -38,16 +33,5 @@ returns : tie.Need-returns Inv-loop μ-loop
 returns c = let i = c .before .loop .inv in let e : c .before .loop .k ≡ c .before .before .args .n = omega (arith, i .0) in rw e at (i .1 .is)
 
 pub put-same-spec : {M : Type 1} → statement M
-put-same-spec =
-    tie.close
-    (tie.spec
-    Inv-loop
-    μ-loop
-    loop-holds
-    add-out
-    slice-write-out
-    add-k
-    loop-less
-    loop-again
-    same-length
-    returns)
+put-same-spec = tie.close (tie.spec Inv-loop μ-loop loop-holds add-out slice-write-out (search needs) (search needs)
+    loop-again same-length returns)

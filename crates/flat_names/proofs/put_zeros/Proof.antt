@@ -4,14 +4,8 @@ use borrow.Author.Needs.{needs}
 use Rattle.flat_names.proofs.put_zeros.Statement.{statement}
 use Rattle.flat_names.proofs.put_zeros.Tie as tie
 
-put-same-requires : tie.Need-put-same-requires
-put-same-requires c κs = search needs
-
-same-length : tie.Need-same-length
-same-length c = search needs
-
 returns : tie.Need-returns
 returns c = c .before .before .put-same .ensures
 
 pub put-zeros-spec : {M : Type 1} → statement M
-put-zeros-spec = tie.close (tie.spec put-same-requires same-length returns)
+put-zeros-spec = tie.close (tie.spec (search needs) (search needs) returns)

@@ -8,20 +8,8 @@ use borrow.Author.Needs.{needs}
 use Rattle.flat_names.proofs.run_behind.Statement.{statement}
 use Rattle.flat_names.proofs.run_behind.Tie as tie
 
-add-a : tie.Need-add-a
-add-a c = search needs
-
-add-b : tie.Need-add-b
-add-b c = search needs
-
 add-is-same : tie.Need-add-is-same
 add-is-same c = omega (arith, c .before .pre .1 .1, name-short (record { width = c .before .args .w; bytes = c .before .args .s .now }) (c .before .args .m))
-
-sub-is-same : tie.Need-sub-is-same
-sub-is-same c = search needs
-
-part-is-same-start : tie.Need-part-is-same-start
-part-is-same-start c = search needs
 
 part-is-same-end : tie.Need-part-is-same-end
 part-is-same-end c = omega (arith, c .before .pre .1 .1, name-short (record { width = c .before .args .w; bytes = c .before .args .s .now }) (c .before .args .m))
@@ -29,17 +17,8 @@ part-is-same-end c = omega (arith, c .before .pre .1 .1, name-short (record { wi
 add-is-same-2 : tie.Need-add-is-same-2
 add-is-same-2 c = omega (arith, c .before .before .pre .1 .1, name-short (record { width = c .before .before .args .w; bytes = c .before .before .args .s .now }) (c .before .before .args .m))
 
-sub-is-same-2 : tie.Need-sub-is-same-2
-sub-is-same-2 c = search needs
-
-part-is-same-start-2 : tie.Need-part-is-same-start-2
-part-is-same-start-2 c = search needs
-
 part-is-same-end-2 : tie.Need-part-is-same-end-2
 part-is-same-end-2 c = omega (arith, c .before .before .pre .1 .1, name-short (record { width = c .before .before .args .w; bytes = c .before .before .args .s .now }) (c .before .before .args .m))
-
-is-same-requires : tie.Need-is-same-requires
-is-same-requires c κs = search needs
 
 returns : tie.Need-returns
 returns c = run-other (record { width = c .before .before .before .before .before .args .w; bytes = c .before .before .before .before .before .args .s .now }) (c .before .before .before .before .before .args .p) (c .before .before .before .before .before .args .m) (c .before .before .before .before .before .args .n) (c .before .before .before .before .before .pre .1 .1) (c .before .is-same .ensures) (not-true (c .before .is-same .result) (c .if1 .taken))
@@ -57,22 +36,6 @@ returns-2 : tie.Need-returns-2
 returns-2 c = run-here (record { width = c .before .before .before .before .before .before .args .w; bytes = c .before .before .before .before .before .before .args .s .now }) (c .before .before .before .before .before .before .args .p) (c .before .before .before .before .before .before .args .m) (c .before .before .before .before .before .before .args .n) (c .before .before .before .before .before .before .pre .1 .1) (c .before .before .is-same .ensures) (not-false (c .before .before .is-same .result) (c .before .if1 .left)) (c .before .before .before .before .before .before .pre .0) _ (c .count-underscores .ensures)
 
 pub run-behind-spec : {M : Type 1} → statement M
-run-behind-spec =
-    tie.close
-    (tie.spec
-    add-a
-    add-b
-    add-is-same
-    sub-is-same
-    part-is-same-start
-    part-is-same-end
-    add-is-same-2
-    sub-is-same-2
-    part-is-same-start-2
-    part-is-same-end-2
-    is-same-requires
-    returns
-    add-count-underscores
-    sub-count-underscores
-    count-underscores-requires
-    returns-2)
+run-behind-spec = tie.close (tie.spec (search needs) (search needs) add-is-same (search needs) (search needs)
+    part-is-same-end add-is-same-2 (search needs) (search needs) part-is-same-end-2 (search needs) returns
+    add-count-underscores sub-count-underscores count-underscores-requires returns-2)

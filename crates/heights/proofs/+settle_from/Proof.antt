@@ -1,574 +1,235 @@
--- `heights::settle_from` meets its contract: the invariant: the submodels before p are settled, no higher than h. The entries not seen yet get fewer.
+-- `heights::settle_from` meets its contract: the invariant: the submodels before p are settled, no higher than h. The definitions not seen yet get fewer.
 -- Assumes nothing.
-use Prim.Native.Nat.{ℕ, _-_, _≤_, _<_}
-use mathlib.Core.Path.{refl, _∙_}
+use Prim.Native.Nat.{ℕ, _-_, _<_}
+use mathlib.Core.Path.{refl, sym, _∙_}
 use native.Mathlib.Omega.{arith}
-use lib.ListN.{length}
+use lib.ListN.{length, length-set}
+use borrow.Author.Needs.{needs}
 use borrow.Author.Tests.{not-true, not-false}
-use Rattle.heights.specs.Heights.{isSeen, tally, Kept}
-use Rattle.heights.proofs.Along.{Along, stands, along-on, stands-fits, stands-more}
-use Rattle.heights.proofs.Settling.{Under, tally-low, kept-none, kept-on, enter-partly, under-start, under-held, under-skip, under-more, under-end, def-low, def-along, model-low, grows-few, in-table, meets-itself, call-enters, call-falls, now-length, leave-length, height-low, leave, leave-seen, leaves-true, leaves-false}
 use borrow.Fn.Kinds.{In}
 use borrow.Fn.PlainCycle.{Measures, is, falls, and}
+use Rattle.shadow.proofs.Cells.{kept-all, kept-then}
+use Rattle.heights.specs.Heights.{isUnseen, countOf}
+use Rattle.heights.proofs.Along.{linked-room, through-place, through-after}
+use Rattle.heights.proofs.Settling.{SettleLoop, decides-yes, decides-no, linked-heights, enter-place, enter-room, meets-itself, settled-already, enter-linked, enter, now-kept, now-linked, call-falls, call-enters, settle-on, height-low, leave-kept, leave}
 use Rattle.heights.proofs.settle_from.Reads as settle-from
 use Rattle.heights.proofs.settle_from.Kinds as settle-from-kinds
-use Rattle.heights.proofs.+settle_from.Lts-settle_from as settle-from-lts
-use Rattle.recipe.proofs.record_length.Reads as record-length-reads
+use Rattle.heights.proofs.+settle_from.Lts-settle_from as lts
+use Rattle.heights.proofs.higher.Reads as higher-reads
+use Rattle.heights.proofs.next_submodel.Reads as next-submodel-reads
+use Rattle.shadow.proofs.cell.Reads as cell-reads
+use Rattle.shadow.proofs.set_cell.Reads as set-cell-reads
 use Rattle.heights.proofs.+settle_from.{statement}
 use Rattle.heights.proofs.+settle_from.Tie.{close}
 
-abbrev μ-settle-from : Measures 4 settle-from-kinds.ps ℕ
-μ-settle-from κs a = length (a .0 .now) - tally isSeen (length (a .0 .now)) (a .1 .1 .1 .1 .0 .now)
+abbrev μ-settle-from : Measures 2 settle-from-kinds.ps ℕ
+μ-settle-from κs a = countOf isUnseen (record { width = a .1 .0; bytes = a .0 .now }) (a .1 .1 .0 .now)
 
-abbrev settle-from-at : ℕ → In 4 settle-from-kinds.ps
-settle-from-at t =
-    and 4 settle-from-kinds.ps (is 4 settle-from-kinds.ps μ-settle-from t) settle-from.Pre
+abbrev at : ℕ → In 2 settle-from-kinds.ps
+at n = and 2 settle-from-kinds.ps (is 2 settle-from-kinds.ps μ-settle-from n) settle-from.Pre
 
-abbrev settle-from-below : ℕ → In 4 settle-from-kinds.ps
-settle-from-below t =
-    and 4 settle-from-kinds.ps (falls 4 settle-from-kinds.ps _<_ μ-settle-from t) settle-from.Pre
+abbrev below : ℕ → In 2 settle-from-kinds.ps
+below n = and 2 settle-from-kinds.ps (falls 2 settle-from-kinds.ps _<_ μ-settle-from n) settle-from.Pre
 
-abbrev settle-from-Inv-loop : settle-from-lts.InvT-loop
-settle-from-Inv-loop s w hold model height₀ d seen h₀ p₀ height h p =
-    Kept height₀ height
-    × (((p < length s) → Along (record { width = w; bytes = s }) p)
-    × (((d ≤ p) × (p ≤ length s)) × Under (record { width = w; bytes = s }) d height h p))
+abbrev Inv-loop : lts.InvT-loop
+Inv-loop s w t₀ d seen h₀ p₀ t h p = SettleLoop (record { width = w; bytes = s }) d t₀ t h p
 
-abbrev settle-from-μ-loop : settle-from-lts.MeasureT-loop
-settle-from-μ-loop s w hold model height₀ d seen h₀ p₀ height h p = length s - p
+abbrev μ-loop : lts.MeasureT-loop
+μ-loop s w t₀ d seen h₀ p₀ t h p = length s - p
 
-settle-from-mul-seen : (t : ℕ) → settle-from-lts.Need-mul-seen (
-  record-length-reads.Asked,
-  record-length-reads.Learnt,
-  settle-from-below t,
+-- what the calls ask and answer
+abbrev calls : ℕ → lts.Claims
+calls n = (
+  cell-reads.Asked,
+  cell-reads.Learnt,
+  set-cell-reads.Asked,
+  set-cell-reads.Learnt,
+  next-submodel-reads.Asked,
+  next-submodel-reads.Learnt,
+  below n,
   settle-from.Post,
-) (settle-from-at t) settle-from.Post settle-from-Inv-loop settle-from-μ-loop
-settle-from-mul-seen t c =
-    let x = c .before .before .before .before .pre .1 in
-    let G = x .ground in
-    let low = def-low G (x .definition) in
-    omega (arith, low, G .short, x .partly .long)
+  higher-reads.Asked,
+  higher-reads.Learnt,
+)
 
-settle-from-slice-read-seen : (t : ℕ) → settle-from-lts.Need-slice-read-seen (
-  record-length-reads.Asked,
-  record-length-reads.Learnt,
-  settle-from-below t,
-  settle-from.Post,
-) (settle-from-at t) settle-from.Post settle-from-Inv-loop settle-from-μ-loop
-settle-from-slice-read-seen t c =
-    let x = c .before .before .before .before .before .pre .1 in
-    let G = x .ground in
-    let low = def-low G (x .definition) in
-    omega (arith, low, G .short, x .partly .long)
+module _ (n : ℕ) where
+  cell-requires : lts.Need-cell-requires (calls n) (at n) settle-from.Post Inv-loop μ-loop
+  cell-requires c κs =
+      let x = c .before .before .before .pre .1 in
+      omega (arith, enter-room x)
 
-settle-from-returns : (t : ℕ) → settle-from-lts.Need-returns (
-  record-length-reads.Asked,
-  record-length-reads.Learnt,
-  settle-from-below t,
-  settle-from.Post,
-) (settle-from-at t) settle-from.Post settle-from-Inv-loop settle-from-μ-loop
-settle-from-returns t c =
-    let x = c .before .before .before .before .before .before .pre .1 in
-    let a = c .before .before .before .before .before .before .args in
-    leaves-false refl (meets-itself x (omega (arith, c .if1 .taken, c .before .slice-known2 .given (a .d))))
+  same-length : lts.Need-same-length (calls n) (at n) settle-from.Post Inv-loop μ-loop
+  same-length c =
+      refl
 
-settle-from-returns-2 : (t : ℕ) → settle-from-lts.Need-returns-2 (
-  record-length-reads.Asked,
-  record-length-reads.Learnt,
-  settle-from-below t,
-  settle-from.Post,
-) (settle-from-at t) settle-from.Post settle-from-Inv-loop settle-from-μ-loop
-settle-from-returns-2 t c =
-    let x = c .before .before .before .before .before .before .before .pre .1 in
-    let a = c .before .before .before .before .before .before .before .args in
-    leaves-true (leave-seen x (λ e. omega (arith, e, c .before .if1 .left)) (c .if2 .taken) (omega (arith, c .before .before .slice-known2 .given (a .d))))
+  returns : lts.Need-returns (calls n) (at n) settle-from.Post Inv-loop μ-loop
+  returns c =
+      let x = c .before .before .before .before .before .pre .1 in
+      (kept-all _ _ _, decides-no _ (meets-itself x (c .before .cell .ensures .0) (c .if1 .taken)))
 
-settle-from-mul-height : (t : ℕ) → settle-from-lts.Need-mul-height (
-  record-length-reads.Asked,
-  record-length-reads.Learnt,
-  settle-from-below t,
-  settle-from.Post,
-) (settle-from-at t) settle-from.Post settle-from-Inv-loop settle-from-μ-loop
-settle-from-mul-height t c =
-    let x = c .before .before .before .before .before .before .before .pre .1 in
-    let G = x .ground in
-    let low = def-low G (x .definition) in
-    omega (arith, low, G .short, x .partly .long)
+  same-length-2 : lts.Need-same-length-2 (calls n) (at n) settle-from.Post Inv-loop μ-loop
+  same-length-2 c =
+      refl
 
-settle-from-slice-write-height : (t : ℕ) → settle-from-lts.Need-slice-write-height (
-  record-length-reads.Asked,
-  record-length-reads.Learnt,
-  settle-from-below t,
-  settle-from.Post,
-) (settle-from-at t) settle-from.Post settle-from-Inv-loop settle-from-μ-loop
-settle-from-slice-write-height t c =
-    let x = c .before .before .before .before .before .before .before .pre .1 in
-    let G = x .ground in
-    let low = def-low G (x .definition) in
-    omega (arith, low, G .short, x .partly .long)
+  returns-2 : lts.Need-returns-2 (calls n) (at n) settle-from.Post Inv-loop μ-loop
+  returns-2 c =
+      let x = c .before .before .before .before .before .before .pre .1 in
+      (kept-all _ _ _, decides-yes (settled-already x (c .before .before .cell .ensures) (c .before .if1 .left) (c .if2 .taken)))
 
-settle-from-loop-holds : (t : ℕ) → settle-from-lts.Need-loop-holds (
-  record-length-reads.Asked,
-  record-length-reads.Learnt,
-  settle-from-below t,
-  settle-from.Post,
-) (settle-from-at t) settle-from.Post settle-from-Inv-loop settle-from-μ-loop
-settle-from-loop-holds t c =
-    let x = c .before .before .before .before .before .before .before .pre .1 in
-    let G = x .ground in
-    let low = def-low G (x .definition) in
-    (kept-none _, ((λ h. def-along G (x .definition)), ((omega arith, omega (arith, low)), under-start (enter-partly _ (in-table x) (c .if2 .left) (x .partly)))))
+  set-cell-requires : lts.Need-set-cell-requires (calls n) (at n) settle-from.Post Inv-loop μ-loop
+  set-cell-requires c κs =
+      let x = c .before .before .before .before .before .before .before .pre .1 in
+      (omega (arith, enter-room x), omega arith)
 
-settle-from-mul-if3 : (t : ℕ) → settle-from-lts.Need-mul-if3 (
-  record-length-reads.Asked,
-  record-length-reads.Learnt,
-  settle-from-below t,
-  settle-from.Post,
-) (settle-from-at t) settle-from.Post settle-from-Inv-loop settle-from-μ-loop
-settle-from-mul-if3 t c =
-    let x = c .before .before .before .before .before .before .before .before .before .pre .1 in
-    let G = x .ground in
-    omega (arith, G .short)
+  next-submodel-requires : lts.Need-next-submodel-requires (calls n) (at n) settle-from.Post Inv-loop μ-loop
+  next-submodel-requires c κs =
+      let x = c .before .before .before .before .before .before .before .before .before .before .before .pre .1 in
+      let e = c .before .before .before .set-cell .ensures in
+      (enter-linked x e, x .definition, enter-place x, omega arith)
 
-settle-from-shared-slice-read-if3 : (t : ℕ) → settle-from-lts.Need-shared-slice-read-if3 (
-  record-length-reads.Asked,
-  record-length-reads.Learnt,
-  settle-from-below t,
-  settle-from.Post,
-) (settle-from-at t) settle-from.Post settle-from-Inv-loop settle-from-μ-loop
-settle-from-shared-slice-read-if3 t c =
-    let x = c .before .before .before .before .before .before .before .before .before .before .pre .1 in
-    let G = x .ground in
-    omega (arith, G .holding)
+  loop-holds : lts.Need-loop-holds (calls n) (at n) settle-from.Post Inv-loop μ-loop
+  loop-holds c =
+      let x = c .before .before .before .before .before .before .before .before .before .before .before .before .pre .1 in
+      let e = c .before .before .before .before .set-cell .ensures in
+      let z = sym (c .before .before .before .before .before .before .before .before .cell .ensures .0) ∙ c .before .before .before .before .before .before .if2 .left in
+      enter x e z (c .next-submodel .ensures)
 
-settle-from-cast-if3 : (t : ℕ) → settle-from-lts.Need-cast-if3 (
-  record-length-reads.Asked,
-  record-length-reads.Learnt,
-  settle-from-below t,
-  settle-from.Post,
-) (settle-from-at t) settle-from.Post settle-from-Inv-loop settle-from-μ-loop
-settle-from-cast-if3 t c =
-    let l = c .before .before .loop in
-    omega (arith, c .shared-slice-known4 .given (l .p))
+  cell-requires-2 : lts.Need-cell-requires-2 (calls n) (at n) settle-from.Post Inv-loop μ-loop
+  cell-requires-2 c κs =
+      let x = c .before .before .before .before .before .before .before .before .before .before .before .before .before .before .before .pre .1 in
+      let e = c .before .before .before .before .before .before .before .set-cell .ensures in
+      let z = sym (c .before .before .before .before .before .before .before .before .before .before .before .cell .ensures .0) ∙ c .before .before .before .before .before .before .before .before .before .if2 .left in
+      let u = c .before .before .loop .inv in
+      let l = c .before .loop-test .taken in
+      let g = now-linked x e z u in
+      omega (arith, linked-room g _ (through-place (u .through) g l))
 
-settle-from-loop-less : (t : ℕ) → settle-from-lts.Need-loop-less (
-  record-length-reads.Asked,
-  record-length-reads.Learnt,
-  settle-from-below t,
-  settle-from.Post,
-) (settle-from-at t) settle-from.Post settle-from-Inv-loop settle-from-μ-loop
-settle-from-loop-less t c = omega arith
+  settle-from-requires : lts.Need-settle-from-requires (calls n) (at n) settle-from.Post Inv-loop μ-loop
+  settle-from-requires c κs =
+      let x = c .before .before .before .before .before .before .before .before .before .before .before .before .before .before .before .before .before .pre .1 in
+      let e = c .before .before .before .before .before .before .before .before .before .set-cell .ensures in
+      let z = sym (c .before .before .before .before .before .before .before .before .before .before .before .before .before .cell .ensures .0) ∙ c .before .before .before .before .before .before .before .before .before .before .before .if2 .left in
+      let u = c .before .before .before .before .loop .inv in
+      let l = c .before .before .before .loop-test .taken in
+      let q = c .before .cell2 .ensures .0 in
+      (omega (arith, c .before .before .before .before .before .before .before .before .before .before .before .before .before .before .before .before .before .pre .0, call-falls x e z u), call-enters x e z u l q)
 
-settle-from-loop-again : (t : ℕ) → settle-from-lts.Need-loop-again (
-  record-length-reads.Asked,
-  record-length-reads.Learnt,
-  settle-from-below t,
-  settle-from.Post,
-) (settle-from-at t) settle-from.Post settle-from-Inv-loop settle-from-μ-loop
-settle-from-loop-again t c =
-    let x = c .before .before .before .before .before .before .before .before .before .before .before .pre .1 in
-    let G = x .ground in
-    let l = c .before .before .before .loop in
-    let k = l .inv .0 in
-    let al = l .inv .1 .0 in
-    let u = l .inv .1 .1 .1 in
-    let after = l .inv .1 .1 .0 in
-    let st = stands _ _ (G .whole) (al (c .before .before .loop-test .taken)) (c .before .before .loop-test .taken) in
-    let low = def-low G (x .definition) in
-    (k, ((λ h. absurd (omega arith)), ((omega (arith, low), omega arith), under-held G (x .definition) u st (after .0) (c .if3 .taken))))
+  same-length-3 : lts.Need-same-length-3 (calls n) (at n) settle-from.Post Inv-loop μ-loop
+  same-length-3 c =
+      let x = c .before .before .before .before .before .before .before .before .before .before .before .before .before .before .before .before .before .before .before .before .before .pre .1 in
+      let e = c .before .before .before .before .before .before .before .before .before .before .before .before .before .set-cell .ensures in
+      let z = sym (c .before .before .before .before .before .before .before .before .before .before .before .before .before .before .before .before .before .cell .ensures .0) ∙ c .before .before .before .before .before .before .before .before .before .before .before .before .before .before .before .if2 .left in
+      let u = c .before .before .before .before .before .before .before .before .loop .inv in
+      let k = now-kept x e z u in
+      let v = c .before .before .before .settle-from .ensures in
+      v .0 .long ∙ k .long
 
-settle-from-shared-slice-read-record-length :
-    (t : ℕ) → settle-from-lts.Need-shared-slice-read-record-length (
-      record-length-reads.Asked,
-      record-length-reads.Learnt,
-      settle-from-below t,
-      settle-from.Post,
-    ) (settle-from-at t) settle-from.Post settle-from-Inv-loop settle-from-μ-loop
-settle-from-shared-slice-read-record-length t c = c .before .before .before .loop-test .taken
+  returns-3 : lts.Need-returns-3 (calls n) (at n) settle-from.Post Inv-loop μ-loop
+  returns-3 c =
+      let x = c .before .before .before .before .before .before .before .before .before .before .before .before .before .before .before .before .before .before .before .before .before .pre .1 in
+      let e = c .before .before .before .before .before .before .before .before .before .before .before .before .before .set-cell .ensures in
+      let z = sym (c .before .before .before .before .before .before .before .before .before .before .before .before .before .before .before .before .before .cell .ensures .0) ∙ c .before .before .before .before .before .before .before .before .before .before .before .before .before .before .before .if2 .left in
+      let u = c .before .before .before .before .before .before .before .before .loop .inv in
+      let k = now-kept x e z u in
+      let v = c .before .before .before .settle-from .ensures in
+      (kept-then k (v .0), decides-no _ (v .1 .no (not-true _ (c .if3 .taken))))
 
-settle-from-record-length-requires : (t : ℕ) → settle-from-lts.Need-record-length-requires (
-  record-length-reads.Asked,
-  record-length-reads.Learnt,
-  settle-from-below t,
-  settle-from.Post,
-) (settle-from-at t) settle-from.Post settle-from-Inv-loop settle-from-μ-loop
-settle-from-record-length-requires t c κs =
-    let x = c .before .before .before .before .before .before .before .before .before .before .before .before .pre .1 in
-    let G = x .ground in
-    G .narrow
+  cell-requires-3 : lts.Need-cell-requires-3 (calls n) (at n) settle-from.Post Inv-loop μ-loop
+  cell-requires-3 c κs =
+      let x = c .before .before .before .before .before .before .before .before .before .before .before .before .before .before .before .before .before .before .before .before .before .before .pre .1 in
+      let e = c .before .before .before .before .before .before .before .before .before .before .before .before .before .before .set-cell .ensures in
+      let z = sym (c .before .before .before .before .before .before .before .before .before .before .before .before .before .before .before .before .before .before .cell .ensures .0) ∙ c .before .before .before .before .before .before .before .before .before .before .before .before .before .before .before .before .if2 .left in
+      let u = c .before .before .before .before .before .before .before .before .before .loop .inv in
+      let l = c .before .before .before .before .before .before .before .before .loop-test .taken in
+      let q = c .before .before .before .before .before .before .cell2 .ensures .0 in
+      let v = c .before .before .before .before .settle-from .ensures in
+      omega (arith, enter-room (call-enters x e z u l q), v .0 .long)
 
-settle-from-shared-slice-read-if4 : (t : ℕ) → settle-from-lts.Need-shared-slice-read-if4 (
-  record-length-reads.Asked,
-  record-length-reads.Learnt,
-  settle-from-below t,
-  settle-from.Post,
-) (settle-from-at t) settle-from.Post settle-from-Inv-loop settle-from-μ-loop
-settle-from-shared-slice-read-if4 t c = c .before .before .before .before .before .loop-test .taken
+  higher-requires : lts.Need-higher-requires (calls n) (at n) settle-from.Post Inv-loop μ-loop
+  higher-requires c κs =
+      search needs
 
-settle-from-add-p : (t : ℕ) → settle-from-lts.Need-add-p (
-  record-length-reads.Asked,
-  record-length-reads.Learnt,
-  settle-from-below t,
-  settle-from.Post,
-) (settle-from-at t) settle-from.Post settle-from-Inv-loop settle-from-μ-loop
-settle-from-add-p t c =
-    let x = c .before .before .before .before .before .before .before .before .before .before .before .before .before .before .before .pre .1 in
-    let G = x .ground in
-    let l = c .before .before .before .before .before .before .before .loop in
-    let al = l .inv .1 .0 in
-    let st = stands _ _ (G .whole) (al (c .before .before .before .before .before .before .loop-test .taken)) (c .before .before .before .before .before .before .loop-test .taken) in
-    let rl = c .before .before .record-length .ensures in
-    omega (arith, stands-fits st rl, G .short)
+  next-submodel-requires-2 : lts.Need-next-submodel-requires-2 (calls n) (at n) settle-from.Post Inv-loop μ-loop
+  next-submodel-requires-2 c κs =
+      let x = c .before .before .before .before .before .before .before .before .before .before .before .before .before .before .before .before .before .before .before .before .before .before .before .before .before .pre .1 in
+      let e = c .before .before .before .before .before .before .before .before .before .before .before .before .before .before .before .before .before .set-cell .ensures in
+      let z = sym (c .before .before .before .before .before .before .before .before .before .before .before .before .before .before .before .before .before .before .before .before .before .cell .ensures .0) ∙ c .before .before .before .before .before .before .before .before .before .before .before .before .before .before .before .before .before .before .before .if2 .left in
+      let u = c .before .before .before .before .before .before .before .before .before .before .before .before .loop .inv in
+      let l = c .before .before .before .before .before .before .before .before .before .before .before .loop-test .taken in
+      let g = now-linked x e z u in
+      let v = c .before .before .before .before .before .before .before .settle-from .ensures in
+      (linked-heights (v .0) g, x .definition, through-place (u .through) g l, through-after (u .through) g l)
 
-settle-from-loop-less-2 : (t : ℕ) → settle-from-lts.Need-loop-less-2 (
-  record-length-reads.Asked,
-  record-length-reads.Learnt,
-  settle-from-below t,
-  settle-from.Post,
-) (settle-from-at t) settle-from.Post settle-from-Inv-loop settle-from-μ-loop
-settle-from-loop-less-2 t c =
-    let x = c .before .before .before .before .before .before .before .before .before .before .before .before .before .before .before .pre .1 in
-    let G = x .ground in
-    let l = c .before .before .before .before .before .before .before .loop in
-    let al = l .inv .1 .0 in
-    let st = stands _ _ (G .whole) (al (c .before .before .before .before .before .before .loop-test .taken)) (c .before .before .before .before .before .before .loop-test .taken) in
-    let rl = c .before .before .record-length .ensures in
-    omega (arith, stands-fits st rl, stands-more st rl)
+  loop-less : lts.Need-loop-less (calls n) (at n) settle-from.Post Inv-loop μ-loop
+  loop-less c =
+      omega (arith, c .next-submodel2 .ensures .after, c .next-submodel2 .ensures .within)
 
-settle-from-loop-again-2 : (t : ℕ) → settle-from-lts.Need-loop-again-2 (
-  record-length-reads.Asked,
-  record-length-reads.Learnt,
-  settle-from-below t,
-  settle-from.Post,
-) (settle-from-at t) settle-from.Post settle-from-Inv-loop settle-from-μ-loop
-settle-from-loop-again-2 t c =
-    let x = c .before .before .before .before .before .before .before .before .before .before .before .before .before .before .before .pre .1 in
-    let G = x .ground in
-    let l = c .before .before .before .before .before .before .before .loop in
-    let k = l .inv .0 in
-    let al = l .inv .1 .0 in
-    let u = l .inv .1 .1 .1 in
-    let after = l .inv .1 .1 .0 in
-    let st = stands _ _ (G .whole) (al (c .before .before .before .before .before .before .loop-test .taken)) (c .before .before .before .before .before .before .loop-test .taken) in
-    let rl = c .before .before .record-length .ensures in
-    (k, ((λ h. along-on st rl), ((omega (arith, after .0, stands-more st rl), stands-fits st rl), under-skip G (x .definition) u st rl (c .if4 .taken))))
+  loop-again : lts.Need-loop-again (calls n) (at n) settle-from.Post Inv-loop μ-loop
+  loop-again c =
+      let x = c .before .before .before .before .before .before .before .before .before .before .before .before .before .before .before .before .before .before .before .before .before .before .before .before .before .before .pre .1 in
+      let e = c .before .before .before .before .before .before .before .before .before .before .before .before .before .before .before .before .before .before .set-cell .ensures in
+      let z = sym (c .before .before .before .before .before .before .before .before .before .before .before .before .before .before .before .before .before .before .before .before .before .before .cell .ensures .0) ∙ c .before .before .before .before .before .before .before .before .before .before .before .before .before .before .before .before .before .before .before .before .if2 .left in
+      let u = c .before .before .before .before .before .before .before .before .before .before .before .before .before .loop .inv in
+      let l = c .before .before .before .before .before .before .before .before .before .before .before .before .loop-test .taken in
+      let q = c .before .before .before .before .before .before .before .before .before .before .cell2 .ensures .0 in
+      let v = c .before .before .before .before .before .before .before .before .settle-from .ensures in
+      settle-on x e z u l q (v .1 .yes (not-false _ (c .before .before .before .before .before .if3 .left))) (c .before .before .before .cell3 .ensures .0) (c .before .before .higher .ensures) (c .next-submodel2 .ensures)
 
-settle-from-mul-e : (t : ℕ) → settle-from-lts.Need-mul-e (
-  record-length-reads.Asked,
-  record-length-reads.Learnt,
-  settle-from-below t,
-  settle-from.Post,
-) (settle-from-at t) settle-from.Post settle-from-Inv-loop settle-from-μ-loop
-settle-from-mul-e t c =
-    let x = c .before .before .before .before .before .before .before .before .before .before .before .before .before .before .before .pre .1 in
-    let G = x .ground in
-    omega (arith, G .short)
+  add-set-cell : lts.Need-add-set-cell (calls n) (at n) settle-from.Post Inv-loop μ-loop
+  add-set-cell c =
+      let x = c .before .before .before .before .before .before .before .before .before .before .before .before .before .before .before .pre .1 in
+      let e = c .before .before .before .before .before .before .before .set-cell .ensures in
+      let z = sym (c .before .before .before .before .before .before .before .before .before .before .before .cell .ensures .0) ∙ c .before .before .before .before .before .before .before .before .before .if2 .left in
+      let u = c .before .before .loop .inv in
+      omega (arith, height-low x e z u)
 
-settle-from-shared-slice-read-e : (t : ℕ) → settle-from-lts.Need-shared-slice-read-e (
-  record-length-reads.Asked,
-  record-length-reads.Learnt,
-  settle-from-below t,
-  settle-from.Post,
-) (settle-from-at t) settle-from.Post settle-from-Inv-loop settle-from-μ-loop
-settle-from-shared-slice-read-e t c =
-    let x = c .before .before .before .before .before .before .before .before .before .before .before .before .before .before .before .before .pre .1 in
-    let G = x .ground in
-    omega (arith, G .modelling)
+  set-cell-requires-2 : lts.Need-set-cell-requires-2 (calls n) (at n) settle-from.Post Inv-loop μ-loop
+  set-cell-requires-2 c κs =
+      let x = c .before .before .before .before .before .before .before .before .before .before .before .before .before .before .before .pre .1 in
+      let e = c .before .before .before .before .before .before .before .set-cell .ensures in
+      let z = sym (c .before .before .before .before .before .before .before .before .before .before .before .cell .ensures .0) ∙ c .before .before .before .before .before .before .before .before .before .if2 .left in
+      let u = c .before .before .loop .inv in
+      let k = now-kept x e z u in
+      (omega (arith, enter-room x, k .long), omega (arith, height-low x e z u))
 
-settle-from-cast-e : (t : ℕ) → settle-from-lts.Need-cast-e (
-  record-length-reads.Asked,
-  record-length-reads.Learnt,
-  settle-from-below t,
-  settle-from.Post,
-) (settle-from-at t) settle-from.Post settle-from-Inv-loop settle-from-μ-loop
-settle-from-cast-e t c =
-    let l = c .before .before .before .before .before .before .before .before .loop in
-    omega (arith, c .shared-slice-known7 .given (l .p))
+  same-length-4 : lts.Need-same-length-4 (calls n) (at n) settle-from.Post Inv-loop μ-loop
+  same-length-4 c =
+      let x = c .before .before .before .before .before .before .before .before .before .before .before .before .before .before .before .before .before .before .pre .1 in
+      let e = c .before .before .before .before .before .before .before .before .before .before .set-cell .ensures in
+      let z = sym (c .before .before .before .before .before .before .before .before .before .before .before .before .before .before .cell .ensures .0) ∙ c .before .before .before .before .before .before .before .before .before .before .before .before .if2 .left in
+      let u = c .before .before .before .before .before .loop .inv in
+      rw (c .before .before .set-cell2 .ensures, length-set) (now-kept x e z u .long)
 
-settle-from-settle-from-requires : (t : ℕ) → settle-from-lts.Need-settle-from-requires (
-  record-length-reads.Asked,
-  record-length-reads.Learnt,
-  settle-from-below t,
-  settle-from.Post,
-) (settle-from-at t) settle-from.Post settle-from-Inv-loop settle-from-μ-loop
-settle-from-settle-from-requires t c κs =
-    let x = c .before .before .before .before .before .before .before .before .before .before .before .before .before .before .before .before .before .pre .1 in
-    let a = c .before .before .before .before .before .before .before .before .before .before .before .before .before .before .before .before .before .args in
-    let G = x .ground in
-    let l = c .before .before .before .before .before .before .before .before .before .loop in
-    let k = l .inv .0 in
-    let al = l .inv .1 .0 in
-    let u = l .inv .1 .1 .1 in
-    let st = stands _ _ (G .whole) (al (c .before .before .before .before .before .before .before .before .loop-test .taken)) (c .before .before .before .before .before .before .before .before .loop-test .taken) in
-    (omega (arith, c .before .before .before .before .before .before .before .before .before .before .before .before .before .before .before .before .before .pre .0, call-falls x k (c .before .before .before .before .before .before .before .before .before .before .if2 .left), tally-low isSeen (length (a .s .now)) (l .height)), call-enters x k u st (c .before .before .before .before .before .before .if3 .left) (c .before .before .if4 .left))
-
-settle-from-same-length : (t : ℕ) → settle-from-lts.Need-same-length (
-  record-length-reads.Asked,
-  record-length-reads.Learnt,
-  settle-from-below t,
-  settle-from.Post,
-) (settle-from-at t) settle-from.Post settle-from-Inv-loop settle-from-μ-loop
-settle-from-same-length t c =
-    let x = c .before .before .before .before .before .before .before .before .before .before .before .before .before .before .before .before .before .before .before .before .before .pre .1 in
-    let l = c .before .before .before .before .before .before .before .before .before .before .before .before .before .loop in
-    let k = l .inv .0 in
-    let W = c .before .before .before .settle-from .ensures in
-    W .long ∙ now-length x k
-
-settle-from-returns-3 : (t : ℕ) → settle-from-lts.Need-returns-3 (
-  record-length-reads.Asked,
-  record-length-reads.Learnt,
-  settle-from-below t,
-  settle-from.Post,
-) (settle-from-at t) settle-from.Post settle-from-Inv-loop settle-from-μ-loop
-settle-from-returns-3 t c =
-    let x = c .before .before .before .before .before .before .before .before .before .before .before .before .before .before .before .before .before .before .before .before .before .pre .1 in
-    let l = c .before .before .before .before .before .before .before .before .before .before .before .before .before .loop in
-    let k = l .inv .0 in
-    let W = c .before .before .before .settle-from .ensures in
-    leaves-false (W .long ∙ now-length x k) (W .cyclic (not-true _ (c .if5 .taken)))
-
-settle-from-mul-t : (t : ℕ) → settle-from-lts.Need-mul-t (
-  record-length-reads.Asked,
-  record-length-reads.Learnt,
-  settle-from-below t,
-  settle-from.Post,
-) (settle-from-at t) settle-from.Post settle-from-Inv-loop settle-from-μ-loop
-settle-from-mul-t t c =
-    let x = c .before .before .before .before .before .before .before .before .before .before .before .before .before .before .before .before .before .before .before .before .before .pre .1 in
-    let G = x .ground in
-    let l = c .before .before .before .before .before .before .before .before .before .before .before .before .before .loop in
-    let al = l .inv .1 .0 in
-    let u = l .inv .1 .1 .1 in
-    let st = stands _ _ (G .whole) (al (c .before .before .before .before .before .before .before .before .before .before .before .before .loop-test .taken)) (c .before .before .before .before .before .before .before .before .before .before .before .before .loop-test .taken) in
-    let W = c .before .before .before .settle-from .ensures in
-    omega (arith, model-low G st (c .before .before .before .before .before .before .if4 .left), W .long, u .partly .long, G .short)
-
-settle-from-slice-read-t : (t : ℕ) → settle-from-lts.Need-slice-read-t (
-  record-length-reads.Asked,
-  record-length-reads.Learnt,
-  settle-from-below t,
-  settle-from.Post,
-) (settle-from-at t) settle-from.Post settle-from-Inv-loop settle-from-μ-loop
-settle-from-slice-read-t t c =
-    let x = c .before .before .before .before .before .before .before .before .before .before .before .before .before .before .before .before .before .before .before .before .before .before .pre .1 in
-    let G = x .ground in
-    let l = c .before .before .before .before .before .before .before .before .before .before .before .before .before .before .loop in
-    let al = l .inv .1 .0 in
-    let u = l .inv .1 .1 .1 in
-    let st = stands _ _ (G .whole) (al (c .before .before .before .before .before .before .before .before .before .before .before .before .before .loop-test .taken)) (c .before .before .before .before .before .before .before .before .before .before .before .before .before .loop-test .taken) in
-    let W = c .before .before .before .before .settle-from .ensures in
-    omega (arith, model-low G st (c .before .before .before .before .before .before .before .if4 .left), W .long, u .partly .long, G .short)
-
-settle-from-add-p-2 : (t : ℕ) → settle-from-lts.Need-add-p-2 (
-  record-length-reads.Asked,
-  record-length-reads.Learnt,
-  settle-from-below t,
-  settle-from.Post,
-) (settle-from-at t) settle-from.Post settle-from-Inv-loop settle-from-μ-loop
-settle-from-add-p-2 t c =
-    let x = c .before .before .before .before .before .before .before .before .before .before .before .before .before .before .before .before .before .before .before .before .before .before .before .pre .1 in
-    let G = x .ground in
-    let l = c .before .before .before .before .before .before .before .before .before .before .before .before .before .before .before .loop in
-    let al = l .inv .1 .0 in
-    let st = stands _ _ (G .whole) (al (c .before .before .before .before .before .before .before .before .before .before .before .before .before .before .loop-test .taken)) (c .before .before .before .before .before .before .before .before .before .before .before .before .before .before .loop-test .taken) in
-    let rl = c .before .before .before .before .before .before .before .before .before .before .record-length .ensures in
-    omega (arith, stands-fits st rl, G .short)
-
-settle-from-loop-less-3 : (t : ℕ) → settle-from-lts.Need-loop-less-3 (
-  record-length-reads.Asked,
-  record-length-reads.Learnt,
-  settle-from-below t,
-  settle-from.Post,
-) (settle-from-at t) settle-from.Post settle-from-Inv-loop settle-from-μ-loop
-settle-from-loop-less-3 t c =
-    let x = c .before .before .before .before .before .before .before .before .before .before .before .before .before .before .before .before .before .before .before .before .before .before .before .pre .1 in
-    let G = x .ground in
-    let l = c .before .before .before .before .before .before .before .before .before .before .before .before .before .before .before .loop in
-    let al = l .inv .1 .0 in
-    let st = stands _ _ (G .whole) (al (c .before .before .before .before .before .before .before .before .before .before .before .before .before .before .loop-test .taken)) (c .before .before .before .before .before .before .before .before .before .before .before .before .before .before .loop-test .taken) in
-    let rl = c .before .before .before .before .before .before .before .before .before .before .record-length .ensures in
-    omega (arith, stands-fits st rl, stands-more st rl)
-
-settle-from-loop-again-3 : (t : ℕ) → settle-from-lts.Need-loop-again-3 (
-  record-length-reads.Asked,
-  record-length-reads.Learnt,
-  settle-from-below t,
-  settle-from.Post,
-) (settle-from-at t) settle-from.Post settle-from-Inv-loop settle-from-μ-loop
-settle-from-loop-again-3 t c =
-    let x = c .before .before .before .before .before .before .before .before .before .before .before .before .before .before .before .before .before .before .before .before .before .before .before .pre .1 in
-    let G = x .ground in
-    let l = c .before .before .before .before .before .before .before .before .before .before .before .before .before .before .before .loop in
-    let k = l .inv .0 in
-    let al = l .inv .1 .0 in
-    let u = l .inv .1 .1 .1 in
-    let after = l .inv .1 .1 .0 in
-    let st = stands _ _ (G .whole) (al (c .before .before .before .before .before .before .before .before .before .before .before .before .before .before .loop-test .taken)) (c .before .before .before .before .before .before .before .before .before .before .before .before .before .before .loop-test .taken) in
-    let rl = c .before .before .before .before .before .before .before .before .before .before .record-length .ensures in
-    let W = c .before .before .before .before .before .settle-from .ensures in
-    (kept-on k ((W .settled (not-false _ (c .before .before .if5 .left))) .kept), ((λ h. along-on st rl), ((omega (arith, after .0, stands-more st rl), stands-fits st rl), under-more G (x .definition) u st rl (c .before .before .before .before .before .before .before .before .if4 .left) (W .settled (not-false _ (c .before .before .if5 .left))) (omega arith) (omega (arith, c .if6 .taken)) (grows-few (W .settled (not-false _ (c .before .before .if5 .left))) (u .few)))))
-
-settle-from-add-p-3 : (t : ℕ) → settle-from-lts.Need-add-p-3 (
-  record-length-reads.Asked,
-  record-length-reads.Learnt,
-  settle-from-below t,
-  settle-from.Post,
-) (settle-from-at t) settle-from.Post settle-from-Inv-loop settle-from-μ-loop
-settle-from-add-p-3 t c =
-    let x = c .before .before .before .before .before .before .before .before .before .before .before .before .before .before .before .before .before .before .before .before .before .before .before .pre .1 in
-    let G = x .ground in
-    let l = c .before .before .before .before .before .before .before .before .before .before .before .before .before .before .before .loop in
-    let al = l .inv .1 .0 in
-    let st = stands _ _ (G .whole) (al (c .before .before .before .before .before .before .before .before .before .before .before .before .before .before .loop-test .taken)) (c .before .before .before .before .before .before .before .before .before .before .before .before .before .before .loop-test .taken) in
-    let rl = c .before .before .before .before .before .before .before .before .before .before .record-length .ensures in
-    omega (arith, stands-fits st rl, G .short)
-
-settle-from-loop-less-4 : (t : ℕ) → settle-from-lts.Need-loop-less-4 (
-  record-length-reads.Asked,
-  record-length-reads.Learnt,
-  settle-from-below t,
-  settle-from.Post,
-) (settle-from-at t) settle-from.Post settle-from-Inv-loop settle-from-μ-loop
-settle-from-loop-less-4 t c =
-    let x = c .before .before .before .before .before .before .before .before .before .before .before .before .before .before .before .before .before .before .before .before .before .before .before .pre .1 in
-    let G = x .ground in
-    let l = c .before .before .before .before .before .before .before .before .before .before .before .before .before .before .before .loop in
-    let al = l .inv .1 .0 in
-    let st = stands _ _ (G .whole) (al (c .before .before .before .before .before .before .before .before .before .before .before .before .before .before .loop-test .taken)) (c .before .before .before .before .before .before .before .before .before .before .before .before .before .before .loop-test .taken) in
-    let rl = c .before .before .before .before .before .before .before .before .before .before .record-length .ensures in
-    omega (arith, stands-fits st rl, stands-more st rl)
-
-settle-from-loop-again-4 : (t : ℕ) → settle-from-lts.Need-loop-again-4 (
-  record-length-reads.Asked,
-  record-length-reads.Learnt,
-  settle-from-below t,
-  settle-from.Post,
-) (settle-from-at t) settle-from.Post settle-from-Inv-loop settle-from-μ-loop
-settle-from-loop-again-4 t c =
-    let x = c .before .before .before .before .before .before .before .before .before .before .before .before .before .before .before .before .before .before .before .before .before .before .before .pre .1 in
-    let G = x .ground in
-    let l = c .before .before .before .before .before .before .before .before .before .before .before .before .before .before .before .loop in
-    let k = l .inv .0 in
-    let al = l .inv .1 .0 in
-    let u = l .inv .1 .1 .1 in
-    let after = l .inv .1 .1 .0 in
-    let st = stands _ _ (G .whole) (al (c .before .before .before .before .before .before .before .before .before .before .before .before .before .before .loop-test .taken)) (c .before .before .before .before .before .before .before .before .before .before .before .before .before .before .loop-test .taken) in
-    let rl = c .before .before .before .before .before .before .before .before .before .before .record-length .ensures in
-    let W = c .before .before .before .before .before .settle-from .ensures in
-    (kept-on k ((W .settled (not-false _ (c .before .before .if5 .left))) .kept), ((λ h. along-on st rl), ((omega (arith, after .0, stands-more st rl), stands-fits st rl), under-more G (x .definition) u st rl (c .before .before .before .before .before .before .before .before .if4 .left) (W .settled (not-false _ (c .before .before .if5 .left))) (c .if6 .left) (omega arith) ((W .settled (not-false _ (c .before .before .if5 .left))) .partly .low _ ((W .settled (not-false _ (c .before .before .if5 .left))) .own)))))
-
-settle-from-add-height : (t : ℕ) → settle-from-lts.Need-add-height (
-  record-length-reads.Asked,
-  record-length-reads.Learnt,
-  settle-from-below t,
-  settle-from.Post,
-) (settle-from-at t) settle-from.Post settle-from-Inv-loop settle-from-μ-loop
-settle-from-add-height t c =
-    let x = c .before .before .before .before .before .before .before .before .before .pre .1 in
-    let l = c .before .loop in
-    let k = l .inv .0 in
-    let u = l .inv .1 .1 .1 in
-    omega (arith, height-low x k u)
-
-settle-from-mul-height-2 : (t : ℕ) → settle-from-lts.Need-mul-height-2 (
-  record-length-reads.Asked,
-  record-length-reads.Learnt,
-  settle-from-below t,
-  settle-from.Post,
-) (settle-from-at t) settle-from.Post settle-from-Inv-loop settle-from-μ-loop
-settle-from-mul-height-2 t c =
-    let x = c .before .before .before .before .before .before .before .before .before .pre .1 in
-    let G = x .ground in
-    let l = c .before .loop in
-    let u = l .inv .1 .1 .1 in
-    let low = def-low G (x .definition) in
-    omega (arith, low, G .short, u .partly .long)
-
-settle-from-slice-write-height-2 : (t : ℕ) → settle-from-lts.Need-slice-write-height-2 (
-  record-length-reads.Asked,
-  record-length-reads.Learnt,
-  settle-from-below t,
-  settle-from.Post,
-) (settle-from-at t) settle-from.Post settle-from-Inv-loop settle-from-μ-loop
-settle-from-slice-write-height-2 t c =
-    let x = c .before .before .before .before .before .before .before .before .before .pre .1 in
-    let G = x .ground in
-    let l = c .before .loop in
-    let u = l .inv .1 .1 .1 in
-    let low = def-low G (x .definition) in
-    omega (arith, low, G .short, u .partly .long)
-
-settle-from-same-length-2 : (t : ℕ) → settle-from-lts.Need-same-length-2 (
-  record-length-reads.Asked,
-  record-length-reads.Learnt,
-  settle-from-below t,
-  settle-from.Post,
-) (settle-from-at t) settle-from.Post settle-from-Inv-loop settle-from-μ-loop
-settle-from-same-length-2 t c =
-    let x = c .before .before .before .before .before .before .before .before .before .pre .1 in
-    let l = c .before .loop in
-    let k = l .inv .0 in
-    leave-length x k _
-
-settle-from-returns-4 : (t : ℕ) → settle-from-lts.Need-returns-4 (
-  record-length-reads.Asked,
-  record-length-reads.Learnt,
-  settle-from-below t,
-  settle-from.Post,
-) (settle-from-at t) settle-from.Post settle-from-Inv-loop settle-from-μ-loop
-settle-from-returns-4 t c =
-    let x = c .before .before .before .before .before .before .before .before .before .pre .1 in
-    let l = c .before .loop in
-    let k = l .inv .0 in
-    let u = l .inv .1 .1 .1 in
-    leaves-true (leave x k (c .before .before .if2 .left) (under-end u (c .loop-test .left)))
+  returns-4 : lts.Need-returns-4 (calls n) (at n) settle-from.Post Inv-loop μ-loop
+  returns-4 c =
+      let x = c .before .before .before .before .before .before .before .before .before .before .before .before .before .before .before .before .before .before .pre .1 in
+      let e = c .before .before .before .before .before .before .before .before .before .before .set-cell .ensures in
+      let z = sym (c .before .before .before .before .before .before .before .before .before .before .before .before .before .before .cell .ensures .0) ∙ c .before .before .before .before .before .before .before .before .before .before .before .before .if2 .left in
+      let u = c .before .before .before .before .before .loop .inv in
+      rw (c .before .before .set-cell2 .ensures) (leave-kept x e z u, decides-yes (leave x e z u (c .before .before .before .before .loop-test .left)))
 
 pub +settle-from-spec : {M : Type 1} → statement M
-+settle-from-spec = close μ-settle-from λ t. settle-from-lts.spec (
-  record-length-reads.Asked,
-  record-length-reads.Learnt,
-  settle-from-below t,
-  settle-from.Post,
-)
-    (settle-from-at t)
-    settle-from.Post
-    settle-from-Inv-loop
-    settle-from-μ-loop
-    (settle-from-mul-seen t)
-    (settle-from-slice-read-seen t)
-    (settle-from-returns t)
-    (settle-from-returns-2 t)
-    (settle-from-mul-height t)
-    (settle-from-slice-write-height t)
-    (settle-from-loop-holds t)
-    (settle-from-mul-if3 t)
-    (settle-from-shared-slice-read-if3 t)
-    (settle-from-cast-if3 t)
-    (settle-from-loop-less t)
-    (settle-from-loop-again t)
-    (settle-from-shared-slice-read-record-length t)
-    (settle-from-record-length-requires t)
-    (settle-from-shared-slice-read-if4 t)
-    (settle-from-add-p t)
-    (settle-from-loop-less-2 t)
-    (settle-from-loop-again-2 t)
-    (settle-from-mul-e t)
-    (settle-from-shared-slice-read-e t)
-    (settle-from-cast-e t)
-    (settle-from-settle-from-requires t)
-    (settle-from-same-length t)
-    (settle-from-returns-3 t)
-    (settle-from-mul-t t)
-    (settle-from-slice-read-t t)
-    (settle-from-add-p-2 t)
-    (settle-from-loop-less-3 t)
-    (settle-from-loop-again-3 t)
-    (settle-from-add-p-3 t)
-    (settle-from-loop-less-4 t)
-    (settle-from-loop-again-4 t)
-    (settle-from-add-height t)
-    (settle-from-mul-height-2 t)
-    (settle-from-slice-write-height-2 t)
-    (settle-from-same-length-2 t)
-    (settle-from-returns-4 t)
++settle-from-spec =
+    close μ-settle-from λ n.
+    lts.spec (calls n) (at n) settle-from.Post Inv-loop μ-loop
+    (cell-requires n)
+    (same-length n)
+    (returns n)
+    (same-length-2 n)
+    (returns-2 n)
+    (set-cell-requires n)
+    (next-submodel-requires n)
+    (loop-holds n)
+    (cell-requires-2 n)
+    (settle-from-requires n)
+    (same-length-3 n)
+    (returns-3 n)
+    (cell-requires-3 n)
+    (higher-requires n)
+    (next-submodel-requires-2 n)
+    (loop-less n)
+    (loop-again n)
+    (add-set-cell n)
+    (set-cell-requires-2 n)
+    (same-length-4 n)
+    (returns-4 n)

@@ -1,86 +1,62 @@
 -- `heights::settle` meets its contract: the invariant: the definitions before p are settled, and none is in progress.
 -- Assumes nothing.
-use Prim.Native.Nat.{_-_, _≤_}
-use mathlib.Core.Path.{_∙_}
+use Prim.Native.Nat.{_-_}
 use native.Mathlib.Omega.{arith}
+use mathlib.Core.Path.{_∙_}
 use lib.ListN.{length}
-use borrow.Author.Needs.{needs}
 use borrow.Author.Tests.{not-true, not-false}
-use Rattle.heights.proofs.Along.{Along, along-start, stands, along-on, stands-fits, stands-more}
-use Rattle.heights.proofs.Raising.{settled-true, settled-false}
-use Rattle.heights.proofs.Settling.{Through, through-start, through-enters, through-skip, through-more, through-end}
+use Rattle.shadow.proofs.Cells.{kept-then}
+use Rattle.heights.proofs.Along.{linked-room, place-fits}
+use Rattle.heights.proofs.Settling.{decides-yes, decides-no, linked-heights, SettlesLoop, settles-start, settles-linked, settles-place, settles-enters, settles-on, settles-end}
 use Rattle.heights.proofs.settle.Statement.{statement}
 use Rattle.heights.proofs.settle.Tie as tie
 
 abbrev Inv-loop : tie.InvT-loop
-Inv-loop s w hold model height₀ p₀ height p = (p ≤ length s) × (Along (record { width = w; bytes = s }) p × Through (record { width = w; bytes = s }) height₀ height p)
+Inv-loop s w t₀ p₀ t p = SettlesLoop (record { width = w; bytes = s }) t₀ t p
 
 abbrev μ-loop : tie.MeasureT-loop
-μ-loop s w hold model height₀ p₀ height p = length s - p
+μ-loop s w t₀ p₀ t p = length s - p
 
-clear-requires : tie.Need-clear-requires Inv-loop μ-loop
-clear-requires c κs = search needs
+clear-heights-requires : tie.Need-clear-heights-requires Inv-loop μ-loop
+clear-heights-requires c κs = c .before .before .before .pre .numbered .shadowed
 
 loop-holds : tie.Need-loop-holds Inv-loop μ-loop
-loop-holds c = (omega arith, (along-start _, through-start (c .before .before .clear .ensures) (c .before .before .before .before .before .before .before .before .pre .1)))
+loop-holds c = settles-start (c .before .before .clear-heights .ensures .1)
 
-shared-slice-read-k : tie.Need-shared-slice-read-k Inv-loop μ-loop
-shared-slice-read-k c = c .before .loop-test .taken
-
-record-length-requires : tie.Need-record-length-requires Inv-loop μ-loop
-record-length-requires c κs = (c .before .before .before .before .before .before .before .before .before .before .before .pre .0) .narrow
-
-add-p : tie.Need-add-p Inv-loop μ-loop
-add-p c = omega (arith, stands-fits (stands _ _ ((c .before .before .before .before .before .before .before .before .before .before .before .before .before .pre .0) .whole) (c .before .before .before .before .loop .inv .1 .0) (c .before .before .before .loop-test .taken)) (c .before .record-length .ensures), (c .before .before .before .before .before .before .before .before .before .before .before .before .before .pre .0) .short)
-
-loop-less : tie.Need-loop-less Inv-loop μ-loop
-loop-less c = omega (arith, stands-fits (stands _ _ ((c .before .before .before .before .before .before .before .before .before .before .before .before .before .pre .0) .whole) (c .before .before .before .before .loop .inv .1 .0) (c .before .before .before .loop-test .taken)) (c .before .record-length .ensures), stands-more (stands _ _ ((c .before .before .before .before .before .before .before .before .before .before .before .before .before .pre .0) .whole) (c .before .before .before .before .loop .inv .1 .0) (c .before .before .before .loop-test .taken)) (c .before .record-length .ensures))
-
-loop-again : tie.Need-loop-again Inv-loop μ-loop
-loop-again c = (stands-fits (stands _ _ ((c .before .before .before .before .before .before .before .before .before .before .before .before .before .pre .0) .whole) (c .before .before .before .before .loop .inv .1 .0) (c .before .before .before .loop-test .taken)) (c .before .record-length .ensures), (along-on (stands _ _ ((c .before .before .before .before .before .before .before .before .before .before .before .before .before .pre .0) .whole) (c .before .before .before .before .loop .inv .1 .0) (c .before .before .before .loop-test .taken)) (c .before .record-length .ensures), through-skip (c .before .before .before .before .loop .inv .1 .1) (stands _ _ ((c .before .before .before .before .before .before .before .before .before .before .before .before .before .pre .0) .whole) (c .before .before .before .before .loop .inv .1 .0) (c .before .before .before .loop-test .taken)) (c .before .record-length .ensures) (c .if1 .taken)))
+cell-requires : tie.Need-cell-requires Inv-loop μ-loop
+cell-requires c κs = omega (arith, linked-room (settles-linked (linked-heights (c .before .before .before .before .before .clear-heights .ensures .0) (c .before .before .before .before .before .before .before .before .before .pre)) (c .before .before .loop .inv)) _ (settles-place (linked-heights (c .before .before .before .before .before .clear-heights .ensures .0) (c .before .before .before .before .before .before .before .before .before .pre)) (c .before .before .loop .inv) (c .before .loop-test .taken)))
 
 settle-from-requires : tie.Need-settle-from-requires Inv-loop μ-loop
-settle-from-requires c κs = through-enters (c .before .before .before .before .before .loop .inv .1 .1) (c .before .before .before .before .before .before .before .before .before .before .before .before .before .before .pre .0) (stands _ _ ((c .before .before .before .before .before .before .before .before .before .before .before .before .before .before .pre .0) .whole) (c .before .before .before .before .before .loop .inv .1 .0) (c .before .before .before .before .loop-test .taken)) (c .before .if1 .left)
+settle-from-requires c κs = settles-enters (linked-heights (c .before .before .before .before .before .before .before .clear-heights .ensures .0) (c .before .before .before .before .before .before .before .before .before .before .before .pre)) (c .before .before .before .before .loop .inv) (c .before .before .before .loop-test .taken) (c .before .cell .ensures .0)
 
 same-length : tie.Need-same-length Inv-loop μ-loop
-same-length c = (c .before .before .before .settle-from .ensures) .long ∙ (c .before .before .before .before .before .before .before .before .before .loop .inv .1 .1) .long ∙ c .before .before .before .before .before .before .before .before .before .before .before .before .clear .ensures .long
+same-length c = c .before .before .before .settle-from .ensures .0 .long ∙ c .before .before .before .before .before .before .before .before .loop .inv .walking .kept .long ∙ c .before .before .before .before .before .before .before .before .before .before .before .clear-heights .ensures .0 .long
 
 returns : tie.Need-returns Inv-loop μ-loop
-returns c = settled-false ((c .before .before .before .settle-from .ensures) .cyclic (not-true _ (c .if2 .taken)))
+returns c = (kept-then (kept-then (c .before .before .before .before .before .before .before .before .before .before .before .clear-heights .ensures .0) (c .before .before .before .before .before .before .before .before .loop .inv .walking .kept)) (c .before .before .before .settle-from .ensures .0), decides-no _ (c .before .before .before .settle-from .ensures .1 .no (not-true _ (c .if1 .taken))))
 
-add-p-2 : tie.Need-add-p-2 Inv-loop μ-loop
-add-p-2 c = omega (arith, stands-fits (stands _ _ ((c .before .before .before .before .before .before .before .before .before .before .before .before .before .before .before .before .before .before .pre .0) .whole) (c .before .before .before .before .before .before .before .before .before .loop .inv .1 .0) (c .before .before .before .before .before .before .before .before .loop-test .taken)) (c .before .before .before .before .before .before .record-length .ensures), (c .before .before .before .before .before .before .before .before .before .before .before .before .before .before .before .before .before .before .pre .0) .short)
+shared-slice-read-record-length : tie.Need-shared-slice-read-record-length Inv-loop μ-loop
+shared-slice-read-record-length c = c .before .before .before .before .before .before .before .before .loop-test .taken
 
-loop-less-2 : tie.Need-loop-less-2 Inv-loop μ-loop
-loop-less-2 c = omega (arith, stands-fits (stands _ _ ((c .before .before .before .before .before .before .before .before .before .before .before .before .before .before .before .before .before .before .pre .0) .whole) (c .before .before .before .before .before .before .before .before .before .loop .inv .1 .0) (c .before .before .before .before .before .before .before .before .loop-test .taken)) (c .before .before .before .before .before .before .record-length .ensures), stands-more (stands _ _ ((c .before .before .before .before .before .before .before .before .before .before .before .before .before .before .before .before .before .before .pre .0) .whole) (c .before .before .before .before .before .before .before .before .before .loop .inv .1 .0) (c .before .before .before .before .before .before .before .before .loop-test .taken)) (c .before .before .before .before .before .before .record-length .ensures))
+record-length-requires : tie.Need-record-length-requires Inv-loop μ-loop
+record-length-requires c κs = omega (arith, c .before .before .before .before .before .before .before .before .before .before .before .before .before .before .before .before .pre .numbered .shadowed .narrow)
 
-loop-again-2 : tie.Need-loop-again-2 Inv-loop μ-loop
-loop-again-2 c = (stands-fits (stands _ _ ((c .before .before .before .before .before .before .before .before .before .before .before .before .before .before .before .before .before .before .pre .0) .whole) (c .before .before .before .before .before .before .before .before .before .loop .inv .1 .0) (c .before .before .before .before .before .before .before .before .loop-test .taken)) (c .before .before .before .before .before .before .record-length .ensures), (along-on (stands _ _ ((c .before .before .before .before .before .before .before .before .before .before .before .before .before .before .before .before .before .before .pre .0) .whole) (c .before .before .before .before .before .before .before .before .before .loop .inv .1 .0) (c .before .before .before .before .before .before .before .before .loop-test .taken)) (c .before .before .before .before .before .before .record-length .ensures), through-more (c .before .before .before .before .before .before .before .before .before .loop .inv .1 .1) (stands _ _ ((c .before .before .before .before .before .before .before .before .before .before .before .before .before .before .before .before .before .before .pre .0) .whole) (c .before .before .before .before .before .before .before .before .before .loop .inv .1 .0) (c .before .before .before .before .before .before .before .before .loop-test .taken)) (c .before .before .before .before .before .before .record-length .ensures) ((c .before .before .before .settle-from .ensures) .settled (not-false _ (c .if2 .left)))))
+add-p : tie.Need-add-p Inv-loop μ-loop
+add-p c = omega (arith, place-fits (linked-heights (c .before .before .before .before .before .before .before .before .before .before .before .before .before .clear-heights .ensures .0) (c .before .before .before .before .before .before .before .before .before .before .before .before .before .before .before .before .before .pre)) _ (settles-place (linked-heights (c .before .before .before .before .before .before .before .before .before .before .before .before .before .clear-heights .ensures .0) (c .before .before .before .before .before .before .before .before .before .before .before .before .before .before .before .before .before .pre)) (c .before .before .before .before .before .before .before .before .before .before .loop .inv) (c .before .before .before .before .before .before .before .before .before .loop-test .taken)) (c .record-length .ensures))
+
+loop-less : tie.Need-loop-less Inv-loop μ-loop
+loop-less c = omega (arith, place-fits (linked-heights (c .before .before .before .before .before .before .before .before .before .before .before .before .before .clear-heights .ensures .0) (c .before .before .before .before .before .before .before .before .before .before .before .before .before .before .before .before .before .pre)) _ (settles-place (linked-heights (c .before .before .before .before .before .before .before .before .before .before .before .before .before .clear-heights .ensures .0) (c .before .before .before .before .before .before .before .before .before .before .before .before .before .before .before .before .before .pre)) (c .before .before .before .before .before .before .before .before .before .before .loop .inv) (c .before .before .before .before .before .before .before .before .before .loop-test .taken)) (c .record-length .ensures))
+
+loop-again : tie.Need-loop-again Inv-loop μ-loop
+loop-again c = settles-on (linked-heights (c .before .before .before .before .before .before .before .before .before .before .before .before .before .clear-heights .ensures .0) (c .before .before .before .before .before .before .before .before .before .before .before .before .before .before .before .before .before .pre)) (c .before .before .before .before .before .before .before .before .before .before .loop .inv) (c .before .before .before .before .before .before .before .before .before .loop-test .taken) (c .before .before .before .before .before .before .before .cell .ensures .0) (c .before .before .before .before .before .settle-from .ensures .1 .yes (not-false _ (c .before .before .if1 .left))) (c .record-length .ensures)
 
 same-length-2 : tie.Need-same-length-2 Inv-loop μ-loop
-same-length-2 c = (c .before .loop .inv .1 .1) .long ∙ c .before .before .before .before .clear .ensures .long
+same-length-2 c = c .before .loop .inv .walking .kept .long ∙ c .before .before .before .before .clear-heights .ensures .0 .long
 
 returns-2 : tie.Need-returns-2 Inv-loop μ-loop
-returns-2 c = settled-true (through-end (c .before .loop .inv .1 .1) (c .loop-test .left))
+returns-2 c = (kept-then (c .before .before .before .before .clear-heights .ensures .0) (c .before .loop .inv .walking .kept), decides-yes (settles-end (linked-heights (c .before .before .before .before .clear-heights .ensures .0) (c .before .before .before .before .before .before .before .before .pre)) (c .before .loop .inv) (c .loop-test .left)))
 
 pub settle-spec : {M : Type 1} → statement M
-settle-spec =
-    tie.close
-    (tie.spec
-    Inv-loop
-    μ-loop
-    clear-requires
-    loop-holds
-    shared-slice-read-k
-    record-length-requires
-    add-p
-    loop-less
-    loop-again
-    settle-from-requires
-    same-length
-    returns
-    add-p-2
-    loop-less-2
-    loop-again-2
-    same-length-2
+settle-spec = tie.close (tie.spec Inv-loop μ-loop clear-heights-requires loop-holds cell-requires settle-from-requires
+    same-length returns shared-slice-read-record-length record-length-requires add-p loop-less loop-again same-length-2
     returns-2)

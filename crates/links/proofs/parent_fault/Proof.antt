@@ -1,90 +1,30 @@
 -- `links::parent_fault` meets its contract: by what the parent field leads to.
 -- Assumes nothing.
-use mathlib.Core.Path.{refl, sym, _∙_}
-use mathlib.Core.Logic.{inl}
+use Rattle.recipe.specs.Records.{Recipe}
+use mathlib.Core.Path.{ap, _∙_}
 use native.Mathlib.Omega.{arith}
-use Rattle.links.proofs.Declarations.{small, room-filled, held-low, found-room, parent-blank, parent-sought, parent-missing, parent-there}
+use Rattle.names.specs.Names.{isBlank}
+use Rattle.links.proofs.Fields.{parent-at, class-is}
+use Rattle.links.proofs.Linking.{parent-missing, parent-room, parent-there}
 use borrow.Author.Needs.{needs}
 use Rattle.links.proofs.parent_fault.Statement.{statement}
 use Rattle.links.proofs.parent_fault.Tie as tie
 
-add-c : tie.Need-add-c
-add-c c = let x = c .before .before .before .before .before .pre .0 in let k = c .before .before .before .before .before .pre .1 in omega (arith, small x .0, small x .1, room-filled x (inl k))
-
-add-c-2 : tie.Need-add-c-2
-add-c-2 c = let x = c .before .before .before .before .before .pre .0 in let k = c .before .before .before .before .before .pre .1 in omega (arith, small x .0, small x .1, room-filled x (inl k))
-
-shared-slice-read-c : tie.Need-shared-slice-read-c
-shared-slice-read-c c = let x = c .before .before .before .before .before .before .pre .0 in let k = c .before .before .before .before .before .before .pre .1 in omega (arith, small x .0, small x .1, room-filled x (inl k))
-
-add-field : tie.Need-add-field
-add-field c = let x = c .before .before .before .before .before .before .pre .0 in let k = c .before .before .before .before .before .before .pre .1 in omega (arith, small x .0, small x .1, room-filled x (inl k))
-
-add-field-2 : tie.Need-add-field-2
-add-field-2 c = let x = c .before .before .before .before .before .before .pre .0 in let k = c .before .before .before .before .before .before .pre .1 in omega (arith, small x .0, small x .1, room-filled x (inl k))
-
-add-field-3 : tie.Need-add-field-3
-add-field-3 c = let x = c .before .before .before .before .before .before .pre .0 in let k = c .before .before .before .before .before .before .pre .1 in omega (arith, small x .0, small x .1, room-filled x (inl k))
-
 field-requires : tie.Need-field-requires
-field-requires c κs = let x = c .before .before .before .before .before .before .pre .0 in let k = c .before .before .before .before .before .before .pre .1 in omega (arith, small x .0, small x .1, room-filled x (inl k))
-
-is-blank-requires : tie.Need-is-blank-requires
-is-blank-requires c κs = search needs
-
-parent-may-be-blank-requires : tie.Need-parent-may-be-blank-requires
-parent-may-be-blank-requires c κs = search needs
+field-requires c κs = let pre = c .before .before .pre in let a = c .before .before .args in let R : Recipe = record { width = a .w; bytes = a .s .now } in let g = parent-at R (a .p) (pre .0) (pre .1 .0) (pre .1 .1 .0) in let k = class-is R (a .p) (pre .0) (pre .1 .0) (pre .1 .1 .0) in let ea = pre .1 .1 .1 in g .room
 
 returns : tie.Need-returns
-returns c = let x = c .before .before .before .before .before .before .before .before .before .before .pre .0 in let k = c .before .before .before .before .before .before .before .before .before .before .pre .1 in parent-blank x k (c .before .before .before .field .ensures) (c .before .before .is-blank .ensures) (c .before .if1 .taken) (c .parent-may-be-blank .ensures)
-
-find-declared-requires : tie.Need-find-declared-requires
-find-declared-requires c κs = let x = c .before .before .before .before .before .before .before .before .before .pre .0 in let k = c .before .before .before .before .before .before .before .before .before .pre .1 in (x .named .indexed, (x .named .once, (inl refl, (held-low x, parent-sought x k (c .before .before .field .ensures) (c .before .is-blank .ensures) (c .if1 .left)))))
-
-enum-known-q : tie.Need-enum-known-q
-enum-known-q c = search needs
-
-enum-told : tie.Need-enum-told
-enum-told c = search needs
-
-returns-2 : tie.Need-returns-2
-returns-2 c = let x = c .before .before .before .before .before .before .before .before .before .before .before .before .pre .0 in let k = c .before .before .before .before .before .before .before .before .before .before .before .before .pre .1 in parent-missing x k (c .before .before .before .before .before .field .ensures) (c .before .before .before .before .is-blank .ensures) (c .before .before .before .if1 .left) (sym (c .enum-told .given .1) ∙ c .before .before .find-declared .ensures)
-
-add-parent-allowed : tie.Need-add-parent-allowed
-add-parent-allowed c = let x = c .before .before .before .before .before .before .before .before .before .before .before .before .before .pre .0 in let k = c .before .before .before .before .before .before .before .before .before .before .before .before .before .pre .1 in let q = found-room x (c .before .before .before .before .before .before .field .result .now) (sym (c .before .q .given .1) ∙ c .before .before .before .find-declared .ensures) in omega (arith, q, x .named .indexed .clear .short, small x .0, small x .1)
+returns c = let pre = c .before .before .before .before .before .pre in let a = c .before .before .before .before .before .args in let R : Recipe = record { width = a .w; bytes = a .s .now } in let g = parent-at R (a .p) (pre .0) (pre .1 .0) (pre .1 .1 .0) in let k = class-is R (a .p) (pre .0) (pre .1 .0) (pre .1 .1 .0) in let ea = pre .1 .1 .1 in parent-missing R (a .p) g k ea (c .before .before .before .if1 .taken) (c .before .is-blank .ensures ∙ ap isBlank (c .before .before .field .ensures)) (c .parent-may-be-blank .ensures)
 
 add-parent-allowed-2 : tie.Need-add-parent-allowed-2
-add-parent-allowed-2 c = let x = c .before .before .before .before .before .before .before .before .before .before .before .before .before .pre .0 in let k = c .before .before .before .before .before .before .before .before .before .before .before .before .before .pre .1 in let q = found-room x (c .before .before .before .before .before .before .field .result .now) (sym (c .before .q .given .1) ∙ c .before .before .before .find-declared .ensures) in omega (arith, q, x .named .indexed .clear .short, small x .0, small x .1)
+add-parent-allowed-2 c = let pre = c .before .before .before .pre in let a = c .before .before .before .args in let R : Recipe = record { width = a .w; bytes = a .s .now } in let g = parent-at R (a .p) (pre .0) (pre .1 .0) (pre .1 .1 .0) in let k = class-is R (a .p) (pre .0) (pre .1 .0) (pre .1 .1 .0) in let ea = pre .1 .1 .1 in omega (arith, c .wide .ensures .0, parent-room R (a .p) g k ea (c .before .if1 .left))
 
 shared-slice-read-parent-allowed : tie.Need-shared-slice-read-parent-allowed
-shared-slice-read-parent-allowed c = let x = c .before .before .before .before .before .before .before .before .before .before .before .before .before .before .pre .0 in let k = c .before .before .before .before .before .before .before .before .before .before .before .before .before .before .pre .1 in let q = found-room x (c .before .before .before .before .before .before .before .field .result .now) (sym (c .before .before .q .given .1) ∙ c .before .before .before .before .find-declared .ensures) in omega (arith, q)
+shared-slice-read-parent-allowed c = let pre = c .before .before .before .before .pre in let a = c .before .before .before .before .args in let R : Recipe = record { width = a .w; bytes = a .s .now } in let g = parent-at R (a .p) (pre .0) (pre .1 .0) (pre .1 .1 .0) in let k = class-is R (a .p) (pre .0) (pre .1 .0) (pre .1 .1 .0) in let ea = pre .1 .1 .1 in omega (arith, c .before .wide .ensures .0, parent-room R (a .p) g k ea (c .before .before .if1 .left))
 
-parent-allowed-requires : tie.Need-parent-allowed-requires
-parent-allowed-requires c κs = search needs
-
-returns-3 : tie.Need-returns-3
-returns-3 c = let x = c .before .before .before .before .before .before .before .before .before .before .before .before .before .before .before .pre .0 in let k = c .before .before .before .before .before .before .before .before .before .before .before .before .before .before .before .pre .1 in parent-there x k (c .before .before .before .before .before .before .before .before .field .ensures) (c .before .before .before .before .before .before .before .is-blank .ensures) _ (c .before .before .before .before .before .before .if1 .left) (sym (c .before .before .before .q .given .1) ∙ c .before .before .before .before .before .find-declared .ensures) (c .parent-allowed .ensures)
+returns-2 : tie.Need-returns-2
+returns-2 c = let pre = c .before .before .before .before .before .pre in let a = c .before .before .before .before .before .args in let R : Recipe = record { width = a .w; bytes = a .s .now } in let g = parent-at R (a .p) (pre .0) (pre .1 .0) (pre .1 .1 .0) in let k = class-is R (a .p) (pre .0) (pre .1 .0) (pre .1 .1 .0) in let ea = pre .1 .1 .1 in parent-there R (a .p) g k ea (c .before .before .before .if1 .left) (c .before .before .wide .ensures .0) (c .parent-allowed .ensures)
 
 pub parent-fault-spec : {M : Type 1} → statement M
-parent-fault-spec =
-    tie.close
-    (tie.spec
-    add-c
-    add-c-2
-    shared-slice-read-c
-    add-field
-    add-field-2
-    add-field-3
-    field-requires
-    is-blank-requires
-    parent-may-be-blank-requires
-    returns
-    find-declared-requires
-    enum-known-q
-    enum-told
-    returns-2
-    add-parent-allowed
-    add-parent-allowed-2
-    shared-slice-read-parent-allowed
-    parent-allowed-requires
-    returns-3)
+parent-fault-spec = tie.close (tie.spec field-requires (search needs) (search needs) returns (search needs)
+    (search needs) add-parent-allowed-2 shared-slice-read-parent-allowed (search needs) returns-2)

@@ -28,256 +28,41 @@ sort-at t = and 4 sort-kinds.ps (is 4 sort-kinds.ps μ-sort t) sort.Pre
 abbrev sort-below : ℕ → In 4 sort-kinds.ps
 sort-below t = and 4 sort-kinds.ps (falls 4 sort-kinds.ps _<_ μ-sort t) sort.Pre
 
-sort-cast-index : (t : ℕ) → sort-lts.Need-cast-index (
-  sort-below t,
-  sort.Post,
-  runs-overlap-reads.Asked,
-  runs-overlap-reads.Learnt,
-  merge-back-reads.Asked,
-  merge-back-reads.Learnt,
-) (sort-at t) sort.Post
-sort-cast-index t c = search needs
+-- what it knows of the functions that it calls, itself on shorter lists
+abbrev calls : ℕ → sort-lts.Claims
+calls t =
+    (sort-below t, sort.Post, runs-overlap-reads.Asked, runs-overlap-reads.Learnt, merge-back-reads.Asked, merge-back-reads.Learnt)
 
-sort-slice-write-index : (t : ℕ) → sort-lts.Need-slice-write-index (
-  sort-below t,
-  sort.Post,
-  runs-overlap-reads.Asked,
-  runs-overlap-reads.Learnt,
-  merge-back-reads.Asked,
-  merge-back-reads.Learnt,
-) (sort-at t) sort.Post
-sort-slice-write-index t c = search needs
+module _ (t : ℕ) where
+  returns : sort-lts.Need-returns (calls t) (sort-at t) sort.Post
+  returns c = sorted-one _ (c .before .before .before .before .before .before .args .index .now) _ (c .if2 .taken)
 
-sort-same-length : (t : ℕ) → sort-lts.Need-same-length (
-  sort-below t,
-  sort.Post,
-  runs-overlap-reads.Asked,
-  runs-overlap-reads.Learnt,
-  merge-back-reads.Asked,
-  merge-back-reads.Learnt,
-) (sort-at t) sort.Post
-sort-same-length t c = search needs
+  returns-2 : sort-lts.Need-returns-2 (calls t) (sort-at t) sort.Post
+  returns-2 c = sorted-none _ (c .before .before .before .before .before .before .args .index .now) _ (c .before .if1 .taken) (c .if2 .left)
 
-sort-returns : (t : ℕ) → sort-lts.Need-returns (
-  sort-below t,
-  sort.Post,
-  runs-overlap-reads.Asked,
-  runs-overlap-reads.Learnt,
-  merge-back-reads.Asked,
-  merge-back-reads.Learnt,
-) (sort-at t) sort.Post
-sort-returns t c = sorted-one _ (c .before .before .before .before .before .before .args .index .now) _ (c .if2 .taken)
+  slice-aggregate-sort : sort-lts.Need-slice-aggregate-sort (calls t) (sort-at t) sort.Post
+  slice-aggregate-sort c = let s = c .before .before .before .before .before .before in let xs = s .args .index .now in let h = length xs / 2 in sym (length-take-le h xs (omega arith))
 
-sort-returns-2 : (t : ℕ) → sort-lts.Need-returns-2 (
-  sort-below t,
-  sort.Post,
-  runs-overlap-reads.Asked,
-  runs-overlap-reads.Learnt,
-  merge-back-reads.Asked,
-  merge-back-reads.Learnt,
-) (sort-at t) sort.Post
-sort-returns-2 t c = sorted-none _ (c .before .before .before .before .before .before .args .index .now) _ (c .before .if1 .taken) (c .if2 .left)
+  sort-requires : sort-lts.Need-sort-requires (calls t) (sort-at t) sort.Post
+  sort-requires c κs = let s = c .before .before .before .before .before .before .before in let xs = s .args .index .now in let h = length xs / 2 in let f = c .before .before .if1 .left in let e = length-take-le h xs (omega arith) in (omega (arith, s .pre .0), (s .pre .1 .0, (omega arith, (s .pre .1 .1 .1 .0, omega arith))))
 
-sort-slice-relend-prefix-sort : (t : ℕ) → sort-lts.Need-slice-relend-prefix-sort (
-  sort-below t,
-  sort.Post,
-  runs-overlap-reads.Asked,
-  runs-overlap-reads.Learnt,
-  merge-back-reads.Asked,
-  merge-back-reads.Learnt,
-) (sort-at t) sort.Post
-sort-slice-relend-prefix-sort t c = search needs
+  runs-overlap-requires : sort-lts.Need-runs-overlap-requires (calls t) (sort-at t) sort.Post
+  runs-overlap-requires c κs = let s = c .before .before .before .before .before .before .before .before .before .before .before .before .before .before .before .before .before .before .before .before in let xs = s .args .index .now in let h = length xs / 2 in let f = c .before .before .before .before .before .before .before .before .before .before .before .before .before .before .before .if1 .left in let e = halves-length _ (s .args .from) h xs (c .before .before .before .before .before .before .before .before .before .before .before .before .sort .last .1 .1 .1 .1 .1 .0) (c .before .before .before .before .before .sort2 .last .1 .1 .1 .1 .1 .0) (omega arith) (c .before .before .before .before .before .before .before .before .before .before .before .before .sort .ensures) (c .before .before .before .before .before .sort2 .ensures) in (s .pre .1 .0, (halves-below _ (s .args .from) h xs (c .before .before .before .before .before .before .before .before .before .before .before .before .sort .last .1 .1 .1 .1 .1 .0) (c .before .before .before .before .before .sort2 .last .1 .1 .1 .1 .1 .0) (omega arith) (c .before .before .before .before .before .before .before .before .before .before .before .before .sort .ensures) (c .before .before .before .before .before .sort2 .ensures) _ (s .pre .1 .1 .0), (omega arith, omega arith)))
 
-sort-slice-aggregate-sort : (t : ℕ) → sort-lts.Need-slice-aggregate-sort (
-  sort-below t,
-  sort.Post,
-  runs-overlap-reads.Asked,
-  runs-overlap-reads.Learnt,
-  merge-back-reads.Asked,
-  merge-back-reads.Learnt,
-) (sort-at t) sort.Post
-sort-slice-aggregate-sort t c = let s = c .before .before .before .before .before .before in let xs = s .args .index .now in let h = length xs / 2 in sym (length-take-le h xs (omega arith))
+  same-length-2 : sort-lts.Need-same-length-2 (calls t) (sort-at t) sort.Post
+  same-length-2 c = let s = c .before .before .before .before .before .before .before .before .before .before .before .before .before .before .before .before .before .before .before .before .before .before in let xs = s .args .index .now in let h = length xs / 2 in let f = c .before .before .before .before .before .before .before .before .before .before .before .before .before .before .before .before .before .if1 .left in halves-length _ (s .args .from) h xs (c .before .before .before .before .before .before .before .before .before .before .before .before .before .before .sort .last .1 .1 .1 .1 .1 .0) (c .before .before .before .before .before .before .before .sort2 .last .1 .1 .1 .1 .1 .0) (omega arith) (c .before .before .before .before .before .before .before .before .before .before .before .before .before .before .sort .ensures) (c .before .before .before .before .before .before .before .sort2 .ensures)
 
-sort-sort-requires : (t : ℕ) → sort-lts.Need-sort-requires (
-  sort-below t,
-  sort.Post,
-  runs-overlap-reads.Asked,
-  runs-overlap-reads.Learnt,
-  merge-back-reads.Asked,
-  merge-back-reads.Learnt,
-) (sort-at t) sort.Post
-sort-sort-requires t c κs = let s = c .before .before .before .before .before .before .before in let xs = s .args .index .now in let h = length xs / 2 in let f = c .before .before .if1 .left in let e = length-take-le h xs (omega arith) in (omega (arith, s .pre .0), (s .pre .1 .0, (omega arith, (s .pre .1 .1 .1 .0, omega arith))))
+  returns-3 : sort-lts.Need-returns-3 (calls t) (sort-at t) sort.Post
+  returns-3 c = let s = c .before .before .before .before .before .before .before .before .before .before .before .before .before .before .before .before .before .before .before .before .before .before in let xs = s .args .index .now in let h = length xs / 2 in let f = c .before .before .before .before .before .before .before .before .before .before .before .before .before .before .before .before .before .if1 .left in halves-in-order _ (s .args .from) h xs (c .before .before .before .before .before .before .before .before .before .before .before .before .before .before .sort .last .1 .1 .1 .1 .1 .0) (c .before .before .before .before .before .before .before .sort2 .last .1 .1 .1 .1 .1 .0) (omega arith) (c .before .before .before .before .before .before .before .before .before .before .before .before .before .before .sort .ensures) (c .before .before .before .before .before .before .before .sort2 .ensures) (omega arith) (omega arith) (sym (c .before .runs-overlap .ensures) ∙ not-true (c .before .runs-overlap .result) (c .if3 .taken))
 
-sort-add-sort : (t : ℕ) → sort-lts.Need-add-sort (
-  sort-below t,
-  sort.Post,
-  runs-overlap-reads.Asked,
-  runs-overlap-reads.Learnt,
-  merge-back-reads.Asked,
-  merge-back-reads.Learnt,
-) (sort-at t) sort.Post
-sort-add-sort t c = search needs
+  merge-back-requires : sort-lts.Need-merge-back-requires (calls t) (sort-at t) sort.Post
+  merge-back-requires c κs = let s = c .before .before .before .before .before .before .before .before .before .before .before .before .before .before .before .before .before .before .before .before .before .before .before .before in let xs = s .args .index .now in let h = length xs / 2 in let f = c .before .before .before .before .before .before .before .before .before .before .before .before .before .before .before .before .before .before .before .if1 .left in let e = halves-length _ (s .args .from) h xs (c .before .before .before .before .before .before .before .before .before .before .before .before .before .before .before .before .sort .last .1 .1 .1 .1 .1 .0) (c .before .before .before .before .before .before .before .before .before .sort2 .last .1 .1 .1 .1 .1 .0) (omega arith) (c .before .before .before .before .before .before .before .before .before .before .before .before .before .before .before .before .sort .ensures) (c .before .before .before .before .before .before .before .before .before .sort2 .ensures) in (s .pre .1 .0, (halves-below _ (s .args .from) h xs (c .before .before .before .before .before .before .before .before .before .before .before .before .before .before .before .before .sort .last .1 .1 .1 .1 .1 .0) (c .before .before .before .before .before .before .before .before .before .sort2 .last .1 .1 .1 .1 .1 .0) (omega arith) (c .before .before .before .before .before .before .before .before .before .before .before .before .before .before .before .before .sort .ensures) (c .before .before .before .before .before .before .before .before .before .sort2 .ensures) _ (s .pre .1 .1 .0), (omega arith, search needs)))
 
-sort-mul-sort : (t : ℕ) → sort-lts.Need-mul-sort (
-  sort-below t,
-  sort.Post,
-  runs-overlap-reads.Asked,
-  runs-overlap-reads.Learnt,
-  merge-back-reads.Asked,
-  merge-back-reads.Learnt,
-) (sort-at t) sort.Post
-sort-mul-sort t c = search needs
-
-sort-sub-sort : (t : ℕ) → sort-lts.Need-sub-sort (
-  sort-below t,
-  sort.Post,
-  runs-overlap-reads.Asked,
-  runs-overlap-reads.Learnt,
-  merge-back-reads.Asked,
-  merge-back-reads.Learnt,
-) (sort-at t) sort.Post
-sort-sub-sort t c = search needs
-
-sort-part-sort-start : (t : ℕ) → sort-lts.Need-part-sort-start (
-  sort-below t,
-  sort.Post,
-  runs-overlap-reads.Asked,
-  runs-overlap-reads.Learnt,
-  merge-back-reads.Asked,
-  merge-back-reads.Learnt,
-) (sort-at t) sort.Post
-sort-part-sort-start t c = search needs
-
-sort-part-sort-end : (t : ℕ) → sort-lts.Need-part-sort-end (
-  sort-below t,
-  sort.Post,
-  runs-overlap-reads.Asked,
-  runs-overlap-reads.Learnt,
-  merge-back-reads.Asked,
-  merge-back-reads.Learnt,
-) (sort-at t) sort.Post
-sort-part-sort-end t c = search needs
-
-sort-sort-requires-2 : (t : ℕ) → sort-lts.Need-sort-requires-2 (
-  sort-below t,
-  sort.Post,
-  runs-overlap-reads.Asked,
-  runs-overlap-reads.Learnt,
-  merge-back-reads.Asked,
-  merge-back-reads.Learnt,
-) (sort-at t) sort.Post
-sort-sort-requires-2 t c κs = search needs
-
-sort-runs-overlap-requires : (t : ℕ) → sort-lts.Need-runs-overlap-requires (
-  sort-below t,
-  sort.Post,
-  runs-overlap-reads.Asked,
-  runs-overlap-reads.Learnt,
-  merge-back-reads.Asked,
-  merge-back-reads.Learnt,
-) (sort-at t) sort.Post
-sort-runs-overlap-requires t c κs = let s = c .before .before .before .before .before .before .before .before .before .before .before .before .before .before .before .before .before .before .before .before in let xs = s .args .index .now in let h = length xs / 2 in let f = c .before .before .before .before .before .before .before .before .before .before .before .before .before .before .before .if1 .left in let e = halves-length _ (s .args .from) h xs (c .before .before .before .before .before .before .before .before .before .before .before .before .sort .last .1 .1 .1 .1 .1 .0) (c .before .before .before .before .before .sort2 .last .1 .1 .1 .1 .1 .0) (omega arith) (c .before .before .before .before .before .before .before .before .before .before .before .before .sort .ensures) (c .before .before .before .before .before .sort2 .ensures) in (s .pre .1 .0, (halves-below _ (s .args .from) h xs (c .before .before .before .before .before .before .before .before .before .before .before .before .sort .last .1 .1 .1 .1 .1 .0) (c .before .before .before .before .before .sort2 .last .1 .1 .1 .1 .1 .0) (omega arith) (c .before .before .before .before .before .before .before .before .before .before .before .before .sort .ensures) (c .before .before .before .before .before .sort2 .ensures) _ (s .pre .1 .1 .0), (omega arith, omega arith)))
-
-sort-same-length-2 : (t : ℕ) → sort-lts.Need-same-length-2 (
-  sort-below t,
-  sort.Post,
-  runs-overlap-reads.Asked,
-  runs-overlap-reads.Learnt,
-  merge-back-reads.Asked,
-  merge-back-reads.Learnt,
-) (sort-at t) sort.Post
-sort-same-length-2 t c = let s = c .before .before .before .before .before .before .before .before .before .before .before .before .before .before .before .before .before .before .before .before .before .before in let xs = s .args .index .now in let h = length xs / 2 in let f = c .before .before .before .before .before .before .before .before .before .before .before .before .before .before .before .before .before .if1 .left in halves-length _ (s .args .from) h xs (c .before .before .before .before .before .before .before .before .before .before .before .before .before .before .sort .last .1 .1 .1 .1 .1 .0) (c .before .before .before .before .before .before .before .sort2 .last .1 .1 .1 .1 .1 .0) (omega arith) (c .before .before .before .before .before .before .before .before .before .before .before .before .before .before .sort .ensures) (c .before .before .before .before .before .before .before .sort2 .ensures)
-
-sort-same-length-3 : (t : ℕ) → sort-lts.Need-same-length-3 (
-  sort-below t,
-  sort.Post,
-  runs-overlap-reads.Asked,
-  runs-overlap-reads.Learnt,
-  merge-back-reads.Asked,
-  merge-back-reads.Learnt,
-) (sort-at t) sort.Post
-sort-same-length-3 t c = search needs
-
-sort-returns-3 : (t : ℕ) → sort-lts.Need-returns-3 (
-  sort-below t,
-  sort.Post,
-  runs-overlap-reads.Asked,
-  runs-overlap-reads.Learnt,
-  merge-back-reads.Asked,
-  merge-back-reads.Learnt,
-) (sort-at t) sort.Post
-sort-returns-3 t c = let s = c .before .before .before .before .before .before .before .before .before .before .before .before .before .before .before .before .before .before .before .before .before .before in let xs = s .args .index .now in let h = length xs / 2 in let f = c .before .before .before .before .before .before .before .before .before .before .before .before .before .before .before .before .before .if1 .left in halves-in-order _ (s .args .from) h xs (c .before .before .before .before .before .before .before .before .before .before .before .before .before .before .sort .last .1 .1 .1 .1 .1 .0) (c .before .before .before .before .before .before .before .sort2 .last .1 .1 .1 .1 .1 .0) (omega arith) (c .before .before .before .before .before .before .before .before .before .before .before .before .before .before .sort .ensures) (c .before .before .before .before .before .before .before .sort2 .ensures) (omega arith) (omega arith) (sym (c .before .runs-overlap .ensures) ∙ not-true (c .before .runs-overlap .result) (c .if3 .taken))
-
-sort-merge-back-requires : (t : ℕ) → sort-lts.Need-merge-back-requires (
-  sort-below t,
-  sort.Post,
-  runs-overlap-reads.Asked,
-  runs-overlap-reads.Learnt,
-  merge-back-reads.Asked,
-  merge-back-reads.Learnt,
-) (sort-at t) sort.Post
-sort-merge-back-requires t c κs = let s = c .before .before .before .before .before .before .before .before .before .before .before .before .before .before .before .before .before .before .before .before .before .before .before .before in let xs = s .args .index .now in let h = length xs / 2 in let f = c .before .before .before .before .before .before .before .before .before .before .before .before .before .before .before .before .before .before .before .if1 .left in let e = halves-length _ (s .args .from) h xs (c .before .before .before .before .before .before .before .before .before .before .before .before .before .before .before .before .sort .last .1 .1 .1 .1 .1 .0) (c .before .before .before .before .before .before .before .before .before .sort2 .last .1 .1 .1 .1 .1 .0) (omega arith) (c .before .before .before .before .before .before .before .before .before .before .before .before .before .before .before .before .sort .ensures) (c .before .before .before .before .before .before .before .before .before .sort2 .ensures) in (s .pre .1 .0, (halves-below _ (s .args .from) h xs (c .before .before .before .before .before .before .before .before .before .before .before .before .before .before .before .before .sort .last .1 .1 .1 .1 .1 .0) (c .before .before .before .before .before .before .before .before .before .sort2 .last .1 .1 .1 .1 .1 .0) (omega arith) (c .before .before .before .before .before .before .before .before .before .before .before .before .before .before .before .before .sort .ensures) (c .before .before .before .before .before .before .before .before .before .sort2 .ensures) _ (s .pre .1 .1 .0), (omega arith, search needs)))
-
-sort-same-length-4 : (t : ℕ) → sort-lts.Need-same-length-4 (
-  sort-below t,
-  sort.Post,
-  runs-overlap-reads.Asked,
-  runs-overlap-reads.Learnt,
-  merge-back-reads.Asked,
-  merge-back-reads.Learnt,
-) (sort-at t) sort.Post
-sort-same-length-4 t c = search needs
-
-sort-same-length-5 : (t : ℕ) → sort-lts.Need-same-length-5 (
-  sort-below t,
-  sort.Post,
-  runs-overlap-reads.Asked,
-  runs-overlap-reads.Learnt,
-  merge-back-reads.Asked,
-  merge-back-reads.Learnt,
-) (sort-at t) sort.Post
-sort-same-length-5 t c = search needs
-
-sort-returns-4 : (t : ℕ) → sort-lts.Need-returns-4 (
-  sort-below t,
-  sort.Post,
-  runs-overlap-reads.Asked,
-  runs-overlap-reads.Learnt,
-  merge-back-reads.Asked,
-  merge-back-reads.Learnt,
-) (sort-at t) sort.Post
-sort-returns-4 t c = let s = c .before .before .before .before .before .before .before .before .before .before .before .before .before .before .before .before .before .before .before .before .before .before .before .before .before .before .before .before .before in let xs = s .args .index .now in let h = length xs / 2 in let f = c .before .before .before .before .before .before .before .before .before .before .before .before .before .before .before .before .before .before .before .before .before .before .before .before .if1 .left in halves-sorted _ (s .args .from) h xs (c .before .before .before .before .before .before .before .before .before .before .before .before .before .before .before .before .before .before .before .before .before .sort .last .1 .1 .1 .1 .1 .0) (c .before .before .before .before .before .before .before .before .before .before .before .before .before .before .sort2 .last .1 .1 .1 .1 .1 .0) (omega arith) (c .before .before .before .before .before .before .before .before .before .before .before .before .before .before .before .before .before .before .before .before .before .sort .ensures) (c .before .before .before .before .before .before .before .before .before .before .before .before .before .before .sort2 .ensures) _ (c .before .before .before .before .merge-back .ensures)
+  returns-4 : sort-lts.Need-returns-4 (calls t) (sort-at t) sort.Post
+  returns-4 c = let s = c .before .before .before .before .before .before .before .before .before .before .before .before .before .before .before .before .before .before .before .before .before .before .before .before .before .before .before .before .before in let xs = s .args .index .now in let h = length xs / 2 in let f = c .before .before .before .before .before .before .before .before .before .before .before .before .before .before .before .before .before .before .before .before .before .before .before .before .if1 .left in halves-sorted _ (s .args .from) h xs (c .before .before .before .before .before .before .before .before .before .before .before .before .before .before .before .before .before .before .before .before .before .sort .last .1 .1 .1 .1 .1 .0) (c .before .before .before .before .before .before .before .before .before .before .before .before .before .before .sort2 .last .1 .1 .1 .1 .1 .0) (omega arith) (c .before .before .before .before .before .before .before .before .before .before .before .before .before .before .before .before .before .before .before .before .before .sort .ensures) (c .before .before .before .before .before .before .before .before .before .before .before .before .before .before .sort2 .ensures) _ (c .before .before .before .before .merge-back .ensures)
 
 pub +sort-spec : {M : Type 1} → statement M
-+sort-spec = close μ-sort λ t. sort-lts.spec (
-  sort-below t,
-  sort.Post,
-  runs-overlap-reads.Asked,
-  runs-overlap-reads.Learnt,
-  merge-back-reads.Asked,
-  merge-back-reads.Learnt,
-)
-    (sort-at t)
-    sort.Post
-    (sort-cast-index t)
-    (sort-slice-write-index t)
-    (sort-same-length t)
-    (sort-returns t)
-    (sort-returns-2 t)
-    (sort-slice-relend-prefix-sort t)
-    (sort-slice-aggregate-sort t)
-    (sort-sort-requires t)
-    (sort-add-sort t)
-    (sort-mul-sort t)
-    (sort-sub-sort t)
-    (sort-part-sort-start t)
-    (sort-part-sort-end t)
-    (sort-sort-requires-2 t)
-    (sort-runs-overlap-requires t)
-    (sort-same-length-2 t)
-    (sort-same-length-3 t)
-    (sort-returns-3 t)
-    (sort-merge-back-requires t)
-    (sort-same-length-4 t)
-    (sort-same-length-5 t)
-    (sort-returns-4 t)
++sort-spec = close μ-sort λ t. sort-lts.spec (calls t) (sort-at t) sort.Post (search needs) (search needs) (search needs)
+    (returns t) (returns-2 t) (search needs) (slice-aggregate-sort t) (sort-requires t) (search needs) (search needs)
+    (search needs) (search needs) (search needs) (search needs) (runs-overlap-requires t) (same-length-2 t) (search needs)
+    (returns-3 t) (merge-back-requires t) (search needs) (search needs) (returns-4 t)

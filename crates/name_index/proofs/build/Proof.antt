@@ -11,31 +11,15 @@ use borrow.Author.Needs.{needs}
 use Rattle.name_index.proofs.build.Statement.{statement}
 use Rattle.name_index.proofs.build.Tie as tie
 
-slice-relend-prefix-sort : tie.Need-slice-relend-prefix-sort
-slice-relend-prefix-sort c = search needs
-
 slice-aggregate-sort : tie.Need-slice-aggregate-sort
 slice-aggregate-sort c = let s = c .before .before .before .before in sym (length-take-le (s .args .n) (s .args .index .now) (s .pre .1 .0))
 
-slice-aggregate-sort-2 : tie.Need-slice-aggregate-sort-2
-slice-aggregate-sort-2 c = search needs
-
 sort-requires : tie.Need-sort-requires
 sort-requires c κs = let s = c .before .before .before .before .before in let e = length-take-le (s .args .n) (s .args .index .now) (s .pre .1 .0) in (s .pre .0, (omega arith, (omega arith, omega arith)))
-
-same-length : tie.Need-same-length
-same-length c = search needs
 
 returns : tie.Need-returns
 returns c = let s = c .before .before .before .before .before .before .before .before .before in ap (λ (y : List ℕ). y ++ drop (s .args .n) (s .args .index .now)) (c .before .before .before .sort .ensures ∙ ap (ordered (keyedName (s .args .keys .now) (s .args .bytes .now) (s .args .l)) 0) (length-take-le (s .args .n) (s .args .index .now) (s .pre .1 .0)))
 
 pub build-spec : {M : Type 1} → statement M
-build-spec =
-    tie.close
-    (tie.spec
-    slice-relend-prefix-sort
-    slice-aggregate-sort
-    slice-aggregate-sort-2
-    sort-requires
-    same-length
+build-spec = tie.close (tie.spec (search needs) slice-aggregate-sort (search needs) sort-requires (search needs)
     returns)

@@ -9,15 +9,6 @@ use borrow.Author.Needs.{needs}
 use Rattle.name_index.proofs.find.Statement.{statement}
 use Rattle.name_index.proofs.find.Tie as tie
 
-place-requires : tie.Need-place-requires
-place-requires c κs = search needs
-
-mul-p : tie.Need-mul-p
-mul-p c = search needs
-
-shared-slice-read-p : tie.Need-shared-slice-read-p
-shared-slice-read-p c = search needs
-
 cast-p : tie.Need-cast-p
 cast-p c = omega (arith, c .shared-slice-known5 .given (c .before .before .place .result))
 
@@ -34,14 +25,5 @@ returns-3 : tie.Need-returns-3
 returns-3 c = nothing-found (found-past _ _ _ _ _ (c .before .place .ensures) (c .if1 .left) (ranks (c .before .before .before .before .before .before .pre)))
 
 pub find-spec : {M : Type 1} → statement M
-find-spec =
-    tie.close
-    (tie.spec
-    place-requires
-    mul-p
-    shared-slice-read-p
-    cast-p
-    is-at-requires
-    returns
-    returns-2
-    returns-3)
+find-spec = tie.close (tie.spec (λ c κs. search needs) (search needs) (search needs) cast-p is-at-requires returns
+    returns-2 returns-3)

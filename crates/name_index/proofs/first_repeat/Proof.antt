@@ -1,5 +1,6 @@
 -- `name_index::first_repeat` meets its contract: the invariant: `best` is the least of the repeats among the first k places, or n.
 -- Assumes nothing.
+use borrow.Author.Needs.{needs}
 use Prim.Native.Nat.{_-_, _<_}
 use mathlib.Core.Path.{sym, _∙_}
 use native.Mathlib.Omega.{arith}
@@ -18,23 +19,8 @@ abbrev μ-loop : tie.MeasureT-loop
 loop-holds : tie.Need-loop-holds Inv-loop μ-loop
 loop-holds c = (omega arith, seen-start _ _ _)
 
-mul-p : tie.Need-mul-p Inv-loop μ-loop
-mul-p c = omega (arith, c .before .before .before .before .before .pre .enough)
-
-shared-slice-read-p : tie.Need-shared-slice-read-p Inv-loop μ-loop
-shared-slice-read-p c = omega (arith, c .before .before .before .before .before .before .pre .enough)
-
 cast-p : tie.Need-cast-p Inv-loop μ-loop
 cast-p c = omega (arith, c .shared-slice-known4 .given (c .before .before .loop .k))
-
-sub-q : tie.Need-sub-q Inv-loop μ-loop
-sub-q c = omega arith
-
-mul-q : tie.Need-mul-q Inv-loop μ-loop
-mul-q c = omega (arith, c .before .before .before .before .before .before .before .pre .enough)
-
-shared-slice-read-q : tie.Need-shared-slice-read-q Inv-loop μ-loop
-shared-slice-read-q c = omega (arith, c .before .before .before .before .before .before .before .before .pre .enough)
 
 cast-q : tie.Need-cast-q Inv-loop μ-loop
 cast-q c = omega (arith, c .shared-slice-known5 .given (c .before .before .before .before .loop .k - 1))
@@ -42,29 +28,11 @@ cast-q c = omega (arith, c .shared-slice-known5 .given (c .before .before .befor
 is-twin-requires : tie.Need-is-twin-requires Inv-loop μ-loop
 is-twin-requires c κs = (c .before .before .before .before .before .before .before .before .pre .keyed, (ranks (c .before .before .before .before .before .before .before .before .pre) .below (c .before .before .before .before .loop .k - 1) (omega arith), ranks (c .before .before .before .before .before .before .before .before .pre) .below (c .before .before .before .before .loop .k) (c .before .before .before .loop-test .taken)))
 
-add-k : tie.Need-add-k Inv-loop μ-loop
-add-k c = omega arith
-
-loop-less : tie.Need-loop-less Inv-loop μ-loop
-loop-less c = omega arith
-
 loop-again : tie.Need-loop-again Inv-loop μ-loop
 loop-again c = (omega arith, seen-new _ _ _ (ranks (c .before .before .before .before .before .before .before .before .before .before .pre)) (c .before .before .before .before .before .before .loop .inv .1) (c .before .before .before .before .before .before .loop .inv .0) (c .before .before .before .before .before .loop-test .taken) (c .before .before .before .if1 .taken) (sym (c .before .is-twin .ensures) ∙ c .if2 .taken))
 
-add-k-2 : tie.Need-add-k-2 Inv-loop μ-loop
-add-k-2 c = omega arith
-
-loop-less-2 : tie.Need-loop-less-2 Inv-loop μ-loop
-loop-less-2 c = omega arith
-
 loop-again-2 : tie.Need-loop-again-2 Inv-loop μ-loop
 loop-again-2 c = (omega arith, seen-other _ _ _ (c .before .before .before .before .before .before .loop .inv .1) (sym (c .before .is-twin .ensures) ∙ c .if2 .left))
-
-add-k-3 : tie.Need-add-k-3 Inv-loop μ-loop
-add-k-3 c = omega arith
-
-loop-less-3 : tie.Need-loop-less-3 Inv-loop μ-loop
-loop-less-3 c = omega arith
 
 loop-again-3 : tie.Need-loop-again-3 Inv-loop μ-loop
 loop-again-3 c = (omega arith, seen-pass _ _ _ (c .before .before .before .loop .inv .1) (c .if1 .left))
@@ -76,28 +44,6 @@ returns-2 : tie.Need-returns-2 Inv-loop μ-loop
 returns-2 c = nothing-found (seen-none _ _ _ (ranks (c .before .before .before .before .before .before .pre)) (c .before .before .loop .inv .1) (c .before .loop-test .left) (c .if3 .left))
 
 pub first-repeat-spec : {M : Type 1} → statement M
-first-repeat-spec =
-    tie.close
-    (tie.spec
-    Inv-loop
-    μ-loop
-    loop-holds
-    mul-p
-    shared-slice-read-p
-    cast-p
-    sub-q
-    mul-q
-    shared-slice-read-q
-    cast-q
-    is-twin-requires
-    add-k
-    loop-less
-    loop-again
-    add-k-2
-    loop-less-2
-    loop-again-2
-    add-k-3
-    loop-less-3
-    loop-again-3
-    returns
-    returns-2)
+first-repeat-spec = tie.close (tie.spec Inv-loop μ-loop loop-holds (search needs) (search needs) cast-p (search needs)
+    (search needs) (search needs) cast-q is-twin-requires (search needs) (search needs) loop-again (search needs)
+    (search needs) loop-again-2 (search needs) (search needs) loop-again-3 returns returns-2)

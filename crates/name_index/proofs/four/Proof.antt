@@ -8,17 +8,8 @@ use borrow.Author.Needs.{needs}
 use Rattle.name_index.proofs.four.Statement.{statement}
 use Rattle.name_index.proofs.four.Tie as tie
 
-shared-slice-read-result : tie.Need-shared-slice-read-result
-shared-slice-read-result c = search needs
-
 cast-result : tie.Need-cast-result
 cast-result c = omega (arith, c .shared-slice-known .given (c .before .args .i))
-
-add-result : tie.Need-add-result
-add-result c = search needs
-
-shared-slice-read-result-2 : tie.Need-shared-slice-read-result-2
-shared-slice-read-result-2 c = search needs
 
 cast-result-2 : tie.Need-cast-result-2
 cast-result-2 c = omega (arith, c .before .shared-slice-known .given (c .before .before .args .i), c .shared-slice-known2 .given (c .before .before .args .i + 1))
@@ -29,12 +20,6 @@ mul-result c = omega (arith, c .before .shared-slice-known .given (c .before .be
 add-result-2 : tie.Need-add-result-2
 add-result-2 c = omega (arith, c .before .shared-slice-known .given (c .before .before .args .i), c .shared-slice-known2 .given (c .before .before .args .i + 1))
 
-add-result-3 : tie.Need-add-result-3
-add-result-3 c = search needs
-
-shared-slice-read-result-3 : tie.Need-shared-slice-read-result-3
-shared-slice-read-result-3 c = search needs
-
 cast-result-3 : tie.Need-cast-result-3
 cast-result-3 c = omega (arith, c .before .before .shared-slice-known .given (c .before .before .before .args .i), c .before .shared-slice-known2 .given (c .before .before .before .args .i + 1), c .shared-slice-known3 .given (c .before .before .before .args .i + 2))
 
@@ -43,12 +28,6 @@ mul-result-2 c = omega (arith, c .before .before .shared-slice-known .given (c .
 
 add-result-4 : tie.Need-add-result-4
 add-result-4 c = omega (arith, c .before .before .shared-slice-known .given (c .before .before .before .args .i), c .before .shared-slice-known2 .given (c .before .before .before .args .i + 1), c .shared-slice-known3 .given (c .before .before .before .args .i + 2))
-
-add-result-5 : tie.Need-add-result-5
-add-result-5 c = search needs
-
-shared-slice-read-result-4 : tie.Need-shared-slice-read-result-4
-shared-slice-read-result-4 c = search needs
 
 cast-result-4 : tie.Need-cast-result-4
 cast-result-4 c = omega (arith, c .before .before .before .shared-slice-known .given (c .before .before .before .before .args .i), c .before .before .shared-slice-known2 .given (c .before .before .before .before .args .i + 1), c .before .shared-slice-known3 .given (c .before .before .before .before .args .i + 2), c .shared-slice-known4 .given (c .before .before .before .before .args .i + 3))
@@ -64,24 +43,6 @@ unfolding fourAt
 returns c = (refl, omega (arith, c .before .before .before .shared-slice-known .given (c .before .before .before .before .args .i), c .before .before .shared-slice-known2 .given (c .before .before .before .before .args .i + 1), c .before .shared-slice-known3 .given (c .before .before .before .before .args .i + 2), c .shared-slice-known4 .given (c .before .before .before .before .args .i + 3)))
 
 pub four-spec : {M : Type 1} → statement M
-four-spec =
-    tie.close
-    (tie.spec
-    shared-slice-read-result
-    cast-result
-    add-result
-    shared-slice-read-result-2
-    cast-result-2
-    mul-result
-    add-result-2
-    add-result-3
-    shared-slice-read-result-3
-    cast-result-3
-    mul-result-2
-    add-result-4
-    add-result-5
-    shared-slice-read-result-4
-    cast-result-4
-    mul-result-3
-    add-result-6
-    returns)
+four-spec = tie.close (tie.spec (search needs) cast-result (search needs) (search needs) cast-result-2 mul-result
+    add-result-2 (search needs) (search needs) cast-result-3 mul-result-2 add-result-4 (search needs) (search needs)
+    cast-result-4 mul-result-3 add-result-6 returns)

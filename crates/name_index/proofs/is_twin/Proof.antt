@@ -5,18 +5,11 @@ use Rattle.name_index.specs.Index.{keyedName}
 use mathlib.Core.Path.{refl, ap, _∙_}
 use mathlib.Core.List.{List, _∷_}
 use Prim.Native.Nat.{ℕ}
-use native.Mathlib.Omega.{arith}
 use Rattle.names.proofs.Lists.{same-eq}
 use Rattle.name_index.proofs.Merging.{whole-below, keyed-below}
 use borrow.Author.Needs.{needs}
 use Rattle.name_index.proofs.is_twin.Statement.{statement}
 use Rattle.name_index.proofs.is_twin.Tie as tie
-
-mul-is-at : tie.Need-mul-is-at
-mul-is-at c = search needs
-
-shared-slice-read-is-at : tie.Need-shared-slice-read-is-at
-shared-slice-read-is-at c = omega (arith, c .before .before .before .pre .0 .enough)
 
 name-at-requires : tie.Need-name-at-requires
 name-at-requires c κs = whole-below (c .before .before .before .pre .0 .whole) (c .before .before .before .pre .1 .1)
@@ -28,5 +21,4 @@ returns : tie.Need-returns
 returns c = c .is-at .ensures ∙ same-eq {x = keyedName (c .before .before .before .before .before .args .keys .now) (c .before .before .before .before .before .args .bytes .now) (c .before .before .before .before .before .args .l) (c .before .before .before .before .before .args .q)} refl (ap (λ (y : List ℕ). getD (c .before .before .before .before .before .args .keys .now) (c .before .before .before .before .before .args .p) 0 ∷ y) (c .before .name-at .ensures))
 
 pub is-twin-spec : {M : Type 1} → statement M
-is-twin-spec =
-    tie.close (tie.spec mul-is-at shared-slice-read-is-at name-at-requires is-at-requires returns)
+is-twin-spec = tie.close (tie.spec (search needs) (search needs) name-at-requires is-at-requires returns)

@@ -8,17 +8,11 @@ use borrow.Author.Needs.{needs}
 use Rattle.name_index.proofs.merge_back.Statement.{statement}
 use Rattle.name_index.proofs.merge_back.Tie as tie
 
-slice-relend-prefix-merge-halves : tie.Need-slice-relend-prefix-merge-halves
-slice-relend-prefix-merge-halves c = search needs
-
 slice-aggregate-merge-halves : tie.Need-slice-aggregate-merge-halves
 slice-aggregate-merge-halves c = let s = c .before .before .before .before .before .before in sym (length-take-le _ (s .args .other .now) (s .pre .1 .1 .1))
 
 merge-halves-requires : tie.Need-merge-halves-requires
 merge-halves-requires c κs = let s = c .before .before .before .before .before .before in (s .pre .0, (s .pre .1 .0, (s .pre .1 .1 .0, length-take-le _ (s .args .other .now) (s .pre .1 .1 .1))))
-
-slice-reshare-prefix-copy : tie.Need-slice-reshare-prefix-copy
-slice-reshare-prefix-copy c = search needs
 
 slice-aggregate-copy : tie.Need-slice-aggregate-copy
 slice-aggregate-copy c = let s = c .before .before .before .before .before .before .before .before .before .before in let m = c .before .before .before .merge-halves in let out = m .last .1 .1 .1 .1 .1 .1 .0 in let n = length (s .args .runs .now) in let k = merged-halves-length _ (s .args .h) (s .args .runs .now) out (s .pre .1 .1 .0) (m .ensures) in let t = take-at out (drop n (s .args .other .now)) n k in sym (ap length t ∙ k)
@@ -26,25 +20,9 @@ slice-aggregate-copy c = let s = c .before .before .before .before .before .befo
 copy-requires : tie.Need-copy-requires
 copy-requires c κs = let s = c .before .before .before .before .before .before .before .before .before .before .before in let m = c .before .before .before .before .merge-halves in let out = m .last .1 .1 .1 .1 .1 .1 .0 in let n = length (s .args .runs .now) in let k = merged-halves-length _ (s .args .h) (s .args .runs .now) out (s .pre .1 .1 .0) (m .ensures) in let t = take-at out (drop n (s .args .other .now)) n k in ap length t ∙ k
 
-same-length : tie.Need-same-length
-same-length c = search needs
-
-same-length-2 : tie.Need-same-length-2
-same-length-2 c = search needs
-
 returns : tie.Need-returns
 returns c = let s = c .before .before .before .before .before .before .before .before .before .before .before .before .before .before in let m = c .before .before .before .before .before .before .before .merge-halves in let out = m .last .1 .1 .1 .1 .1 .1 .0 in let n = length (s .args .runs .now) in let k = merged-halves-length _ (s .args .h) (s .args .runs .now) out (s .pre .1 .1 .0) (m .ensures) in let t = take-at out (drop n (s .args .other .now)) n k in c .before .before .copy .ensures ∙ (t ∙ m .ensures)
 
 pub merge-back-spec : {M : Type 1} → statement M
-merge-back-spec =
-    tie.close
-    (tie.spec
-    slice-relend-prefix-merge-halves
-    slice-aggregate-merge-halves
-    merge-halves-requires
-    slice-reshare-prefix-copy
-    slice-aggregate-copy
-    copy-requires
-    same-length
-    same-length-2
-    returns)
+merge-back-spec = tie.close (tie.spec (search needs) slice-aggregate-merge-halves merge-halves-requires (search needs)
+    slice-aggregate-copy copy-requires (search needs) (search needs) returns)

@@ -13,36 +13,12 @@ use Rattle.name_index.proofs.merge_halves.Tie as tie
 slice-aggregate-a : tie.Need-slice-aggregate-a
 slice-aggregate-a c = let s = c .before .before .before .before .before in sym (length-take-le (s .args .h) (s .args .runs .now) (s .pre .1 .1 .0))
 
-mul-b : tie.Need-mul-b
-mul-b c = search needs
-
-sub-b : tie.Need-sub-b
-sub-b c = search needs
-
-part-b-start : tie.Need-part-b-start
-part-b-start c = search needs
-
-part-b-end : tie.Need-part-b-end
-part-b-end c = search needs
-
 merge-requires : tie.Need-merge-requires
 merge-requires c κs = let s = c .before .before .before .before .before .before .before in let x = s .args .runs .now in let h = s .args .h in (s .pre .0, (below-take _ h x (s .pre .1 .0), (rw (half-is h x) (below-drop _ h x (s .pre .1 .0)), s .pre .1 .1 .1 ∙ parts-length h x (s .pre .1 .1 .0))))
-
-same-length : tie.Need-same-length
-same-length c = search needs
 
 returns : tie.Need-returns
 returns c = let s = c .before .before .before .before .before .before .before .before .before .before in let x = s .args .runs .now in let h = s .args .h in c .before .before .merge .ensures ∙ ap (merged (keyedName (s .args .keys .now) (s .args .bytes .now) (s .args .l)) (take h x)) (half-is h x)
 
 pub merge-halves-spec : {M : Type 1} → statement M
-merge-halves-spec =
-    tie.close
-    (tie.spec
-    slice-aggregate-a
-    mul-b
-    sub-b
-    part-b-start
-    part-b-end
-    merge-requires
-    same-length
-    returns)
+merge-halves-spec = tie.close (tie.spec slice-aggregate-a (search needs) (search needs) (search needs) (search needs)
+    merge-requires (search needs) returns)

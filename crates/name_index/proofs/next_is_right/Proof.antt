@@ -13,20 +13,8 @@ returns c = sym (none-left _ _ _ _ (c .if1 .taken))
 returns-2 : tie.Need-returns-2
 returns-2 c = sym (none-right _ _ _ _ _ (c .before .if1 .left) (c .if2 .taken))
 
-mul-precedes : tie.Need-mul-precedes
-mul-precedes c = search needs
-
-shared-slice-read-precedes : tie.Need-shared-slice-read-precedes
-shared-slice-read-precedes c = search needs
-
 cast-precedes : tie.Need-cast-precedes
 cast-precedes c = omega (arith, c .shared-slice-known5 .given (c .before .before .before .before .before .before .before .args .j))
-
-mul-precedes-2 : tie.Need-mul-precedes-2
-mul-precedes-2 c = search needs
-
-shared-slice-read-precedes-2 : tie.Need-shared-slice-read-precedes-2
-shared-slice-read-precedes-2 c = search needs
 
 cast-precedes-2 : tie.Need-cast-precedes-2
 cast-precedes-2 c = omega (arith, c .shared-slice-known6 .given (c .before .before .before .before .before .before .before .before .args .i))
@@ -38,16 +26,5 @@ returns-3 : tie.Need-returns-3
 returns-3 c = c .precedes .ensures ∙ sym (both-left _ _ _ _ _ (c .before .before .before .before .if1 .left) (c .before .before .before .if2 .left))
 
 pub next-is-right-spec : {M : Type 1} → statement M
-next-is-right-spec =
-    tie.close
-    (tie.spec
-    returns
-    returns-2
-    mul-precedes
-    shared-slice-read-precedes
-    cast-precedes
-    mul-precedes-2
-    shared-slice-read-precedes-2
-    cast-precedes-2
-    precedes-requires
-    returns-3)
+next-is-right-spec = tie.close (tie.spec returns returns-2 (search needs) (search needs) cast-precedes (search needs)
+    (search needs) cast-precedes-2 precedes-requires returns-3)

@@ -1,5 +1,6 @@
 -- `name_index::place` meets its contract: the invariant: all before lo come before the name, none from hi on.
 -- Assumes nothing.
+use borrow.Author.Needs.{needs}
 use Prim.Native.Nat.{_+_, _-_, _/_}
 use mathlib.Core.Path.{sym, _∙_}
 use mathlib.Core.List.{_∷_}
@@ -19,35 +20,14 @@ abbrev μ-loop : tie.MeasureT-loop
 loop-holds : tie.Need-loop-holds Inv-loop μ-loop
 loop-holds c = narrow-start _ _ _ _
 
-sub-mid : tie.Need-sub-mid Inv-loop μ-loop
-sub-mid c = omega arith
-
-add-mid : tie.Need-add-mid Inv-loop μ-loop
-add-mid c = omega arith
-
-mul-comes-first : tie.Need-mul-comes-first Inv-loop μ-loop
-mul-comes-first c = omega (arith, c .before .before .before .before .before .before .pre .enough)
-
-shared-slice-read-comes-first : tie.Need-shared-slice-read-comes-first Inv-loop μ-loop
-shared-slice-read-comes-first c = omega (arith, c .before .before .before .before .before .before .before .pre .enough)
-
 cast-comes-first : tie.Need-cast-comes-first Inv-loop μ-loop
 cast-comes-first c = let l = c .before .before .loop in omega (arith, c .shared-slice-known5 .given (l .lo + (l .hi - l .lo) / 2))
 
 comes-first-requires : tie.Need-comes-first-requires Inv-loop μ-loop
 comes-first-requires c κs = let l = c .before .before .loop in keyed-below (c .before .before .before .before .before .before .before .pre .keyed) (ranks (c .before .before .before .before .before .before .before .pre) .below (l .lo + (l .hi - l .lo) / 2) (omega arith))
 
-add-lo : tie.Need-add-lo Inv-loop μ-loop
-add-lo c = omega arith
-
-loop-less : tie.Need-loop-less Inv-loop μ-loop
-loop-less c = omega arith
-
 loop-again : tie.Need-loop-again Inv-loop μ-loop
 loop-again c = let l = c .before .before .before .before .loop in narrow-up _ _ _ (ranks (c .before .before .before .before .before .before .before .before .before .pre)) (l .inv) (l .lo + (l .hi - l .lo) / 2) (omega arith) (omega arith) (sym (c .before .comes-first .ensures) ∙ c .if1 .taken)
-
-loop-less-2 : tie.Need-loop-less-2 Inv-loop μ-loop
-loop-less-2 c = omega arith
 
 loop-again-2 : tie.Need-loop-again-2 Inv-loop μ-loop
 loop-again-2 c = let l = c .before .before .before .before .loop in narrow-down _ _ _ (ranks (c .before .before .before .before .before .before .before .before .before .pre)) (l .inv) (l .lo + (l .hi - l .lo) / 2) (omega arith) (omega arith) (sym (c .before .comes-first .ensures) ∙ c .if1 .left)
@@ -56,21 +36,5 @@ returns : tie.Need-returns Inv-loop μ-loop
 returns c = narrow-done _ _ _ (c .before .loop .inv) (c .loop-test .left)
 
 pub place-spec : {M : Type 1} → statement M
-place-spec =
-    tie.close
-    (tie.spec
-    Inv-loop
-    μ-loop
-    loop-holds
-    sub-mid
-    add-mid
-    mul-comes-first
-    shared-slice-read-comes-first
-    cast-comes-first
-    comes-first-requires
-    add-lo
-    loop-less
-    loop-again
-    loop-less-2
-    loop-again-2
-    returns)
+place-spec = tie.close (tie.spec Inv-loop μ-loop loop-holds (search needs) (search needs) (search needs) (search needs)
+    cast-comes-first comes-first-requires (search needs) (search needs) loop-again (search needs) loop-again-2 returns)

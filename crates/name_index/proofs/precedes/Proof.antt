@@ -4,18 +4,11 @@ use lib.ListN.{getD}
 use mathlib.Core.Path.{refl, ap, _∙_}
 use mathlib.Core.List.{List, _∷_}
 use Prim.Native.Nat.{ℕ}
-use native.Mathlib.Omega.{arith}
 use Rattle.names.proofs.Orders.{before-eq}
 use Rattle.name_index.proofs.Merging.{whole-below, keyed-below}
 use borrow.Author.Needs.{needs}
 use Rattle.name_index.proofs.precedes.Statement.{statement}
 use Rattle.name_index.proofs.precedes.Tie as tie
-
-mul-comes-first : tie.Need-mul-comes-first
-mul-comes-first c = search needs
-
-shared-slice-read-comes-first : tie.Need-shared-slice-read-comes-first
-shared-slice-read-comes-first c = omega (arith, c .before .before .before .pre .0 .enough)
 
 name-at-requires : tie.Need-name-at-requires
 name-at-requires c κs = whole-below (c .before .before .before .pre .0 .whole) (c .before .before .before .pre .1 .1)
@@ -27,11 +20,4 @@ returns : tie.Need-returns
 returns c = c .comes-first .ensures ∙ before-eq refl (ap (λ (y : List ℕ). getD (c .before .before .before .before .before .args .keys .now) (c .before .before .before .before .before .args .q) 0 ∷ y) (c .before .name-at .ensures))
 
 pub precedes-spec : {M : Type 1} → statement M
-precedes-spec =
-    tie.close
-    (tie.spec
-    mul-comes-first
-    shared-slice-read-comes-first
-    name-at-requires
-    comes-first-requires
-    returns)
+precedes-spec = tie.close (tie.spec (search needs) (search needs) name-at-requires comes-first-requires returns)

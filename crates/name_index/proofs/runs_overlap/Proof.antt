@@ -6,23 +6,8 @@ use borrow.Author.Needs.{needs}
 use Rattle.name_index.proofs.runs_overlap.Statement.{statement}
 use Rattle.name_index.proofs.runs_overlap.Tie as tie
 
-mul-precedes : tie.Need-mul-precedes
-mul-precedes c = search needs
-
-shared-slice-read-precedes : tie.Need-shared-slice-read-precedes
-shared-slice-read-precedes c = search needs
-
 cast-precedes : tie.Need-cast-precedes
 cast-precedes c = omega (arith, c .shared-slice-known4 .given (c .before .before .before .before .args .h))
-
-sub-precedes : tie.Need-sub-precedes
-sub-precedes c = search needs
-
-mul-precedes-2 : tie.Need-mul-precedes-2
-mul-precedes-2 c = search needs
-
-shared-slice-read-precedes-2 : tie.Need-shared-slice-read-precedes-2
-shared-slice-read-precedes-2 c = search needs
 
 cast-precedes-2 : tie.Need-cast-precedes-2
 cast-precedes-2 c = omega (arith, c .shared-slice-known5 .given (c .before .before .before .before .before .args .h - 1))
@@ -30,19 +15,6 @@ cast-precedes-2 c = omega (arith, c .shared-slice-known5 .given (c .before .befo
 precedes-requires : tie.Need-precedes-requires
 precedes-requires c κs = (c .before .before .before .before .before .pre .0, (c .before .before .before .before .before .pre .1 .0 _ (c .before .before .before .before .before .pre .1 .1 .1), c .before .before .before .before .before .pre .1 .0 (c .before .before .before .before .before .args .h - 1) (omega arith)))
 
-returns : tie.Need-returns
-returns c = search needs
-
 pub runs-overlap-spec : {M : Type 1} → statement M
-runs-overlap-spec =
-    tie.close
-    (tie.spec
-    mul-precedes
-    shared-slice-read-precedes
-    cast-precedes
-    sub-precedes
-    mul-precedes-2
-    shared-slice-read-precedes-2
-    cast-precedes-2
-    precedes-requires
-    returns)
+runs-overlap-spec = tie.close (tie.spec (search needs) (search needs) cast-precedes (search needs) (search needs)
+    (search needs) cast-precedes-2 precedes-requires (λ c. search needs))

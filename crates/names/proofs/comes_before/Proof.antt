@@ -6,47 +6,18 @@ use borrow.Author.Needs.{needs}
 use Rattle.names.proofs.comes_before.Statement.{statement}
 use Rattle.names.proofs.comes_before.Tie as tie
 
-common-requires : tie.Need-common-requires
-common-requires c κs = search needs
-
 returns : tie.Need-returns
 returns c = run-shorter _ _ (omega arith) (c .before .before .if1 .taken) (c .before .common .ensures) (c .if2 .taken)
-
-shared-slice-read-result : tie.Need-shared-slice-read-result
-shared-slice-read-result c = search needs
-
-shared-slice-read-result-2 : tie.Need-shared-slice-read-result-2
-shared-slice-read-result-2 c = search needs
 
 returns-2 : tie.Need-returns-2
 returns-2 c = run-differ _ _ (omega arith) (c .before .before .before .before .if1 .taken) (c .before .before .before .common .ensures) (c .before .before .if2 .left)
 
-common-requires-2 : tie.Need-common-requires-2
-common-requires-2 c κs = search needs
-
 returns-3 : tie.Need-returns-3
 returns-3 c = run-longer _ _ (omega arith) (omega arith) (c .before .common2 .ensures) (c .if3 .taken) (c .before .before .if1 .left)
-
-shared-slice-read-result-3 : tie.Need-shared-slice-read-result-3
-shared-slice-read-result-3 c = search needs
-
-shared-slice-read-result-4 : tie.Need-shared-slice-read-result-4
-shared-slice-read-result-4 c = search needs
 
 returns-4 : tie.Need-returns-4
 returns-4 c = run-differ _ _ (omega arith) (omega arith) (c .before .before .before .common2 .ensures) (c .before .before .if3 .left)
 
 pub comes-before-spec : {M : Type 1} → statement M
-comes-before-spec =
-    tie.close
-    (tie.spec
-    common-requires
-    returns
-    shared-slice-read-result
-    shared-slice-read-result-2
-    returns-2
-    common-requires-2
-    returns-3
-    shared-slice-read-result-3
-    shared-slice-read-result-4
-    returns-4)
+comes-before-spec = tie.close (tie.spec (search needs) returns (search needs) (search needs) returns-2 (search needs)
+    returns-3 (search needs) (search needs) returns-4)

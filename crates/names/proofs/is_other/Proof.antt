@@ -5,12 +5,9 @@ use borrow.Author.Needs.{needs}
 use Rattle.names.proofs.is_other.Statement.{statement}
 use Rattle.names.proofs.is_other.Tie as tie
 
-is-first-requires : tie.Need-is-first-requires
-is-first-requires c κs = search needs
-
 returns : tie.Need-returns
 unfolding isOther isDigit
 returns c = rw (c .is-first .ensures)
 
 pub is-other-spec : {M : Type 1} → statement M
-is-other-spec = tie.close (tie.spec is-first-requires returns)
+is-other-spec = tie.close (tie.spec (search needs) returns)

@@ -8,11 +8,8 @@ use Rattle.names.proofs.is_same.Tie as tie
 returns : tie.Need-returns
 returns c = other-length (c .before .before .before .args .a .now) (c .before .before .before .args .b .now) (c .if1 .taken)
 
-common-requires : tie.Need-common-requires
-common-requires c κs = search needs
-
 returns-2 : tie.Need-returns-2
 returns-2 c = run-same (c .before .before .before .before .args .a .now) (c .before .before .before .before .args .b .now) (c .before .if1 .left) (c .common .ensures)
 
 pub is-same-spec : {M : Type 1} → statement M
-is-same-spec = tie.close (tie.spec returns common-requires returns-2)
+is-same-spec = tie.close (tie.spec returns (search needs) returns-2)

@@ -6,7 +6,6 @@ use Rattle.names.specs.Names.{isOther}
 use borrow.Author.Tests.{not-true, not-false}
 use borrow.Author.Needs.{needs}
 use lib.ListN.{length}
-use native.Mathlib.Omega.{arith}
 use mathlib.Core.Path.{sym, _∙_}
 use Prim.Native.Nat.{_-_}
 use Rattle.names.proofs.others.Statement.{statement}
@@ -18,26 +17,8 @@ Inv-loop f i₀ i = Passed (otherAt f) (length f) i
 abbrev μ-loop : tie.MeasureT-loop
 μ-loop f i₀ i = length f - i
 
-others-by-eight-requires : tie.Need-others-by-eight-requires Inv-loop μ-loop
-others-by-eight-requires c κs = search needs
-
-loop-holds : tie.Need-loop-holds Inv-loop μ-loop
-loop-holds c = c .others-by-eight .ensures
-
-shared-slice-read-is-other : tie.Need-shared-slice-read-is-other Inv-loop μ-loop
-shared-slice-read-is-other c = omega arith
-
-is-other-requires : tie.Need-is-other-requires Inv-loop μ-loop
-is-other-requires c κs = search needs
-
 returns : tie.Need-returns Inv-loop μ-loop
 returns c = run-is isOther (c .before .before .before .before .before .before .before .args .f .now) (run-stop _ _ (c .before .before .before .before .loop .inv) (sym (c .before .is-other .ensures) ∙ not-true (c .before .is-other .result) (c .if1 .taken)))
-
-add-i : tie.Need-add-i Inv-loop μ-loop
-add-i c = omega arith
-
-loop-less : tie.Need-loop-less Inv-loop μ-loop
-loop-less c = omega arith
 
 loop-again : tie.Need-loop-again Inv-loop μ-loop
 loop-again c = passed-one _ _ (c .before .before .before .before .loop .inv) (c .before .before .before .loop-test .taken) (sym (c .before .is-other .ensures) ∙ not-false (c .before .is-other .result) (c .if1 .left))
@@ -46,17 +27,5 @@ returns-2 : tie.Need-returns-2 Inv-loop μ-loop
 returns-2 c = run-is isOther (c .before .before .before .before .args .f .now) (run-end _ _ (c .before .loop .inv) (c .loop-test .left))
 
 pub others-spec : {M : Type 1} → statement M
-others-spec =
-    tie.close
-    (tie.spec
-    Inv-loop
-    μ-loop
-    others-by-eight-requires
-    loop-holds
-    shared-slice-read-is-other
-    is-other-requires
-    returns
-    add-i
-    loop-less
-    loop-again
-    returns-2)
+others-spec = tie.close (tie.spec Inv-loop μ-loop (search needs) (λ c. search needs) (search needs) (search needs)
+    returns (search needs) (search needs) loop-again returns-2)

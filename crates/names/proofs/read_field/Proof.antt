@@ -9,9 +9,6 @@ use borrow.Author.Needs.{needs}
 use Rattle.names.proofs.read_field.Statement.{statement}
 use Rattle.names.proofs.read_field.Tie as tie
 
-others-requires : tie.Need-others-requires
-others-requires c κs = search needs
-
 is-blank-from-requires : tie.Need-is-blank-from-requires
 is-blank-from-requires c κs = rw (c .others .ensures) (while-length isOther (c .before .before .args .f .now))
 
@@ -24,9 +21,6 @@ returns-2 c = field-blank _ (c .before .before .before .others .ensures) (c .bef
 shared-slice-read-is-first : tie.Need-shared-slice-read-is-first
 shared-slice-read-is-first c = omega (arith, c .before .before .before .before .others .ensures, while-length isOther (c .before .before .before .before .before .before .args .f .now))
 
-is-first-requires : tie.Need-is-first-requires
-is-first-requires c κs = search needs
-
 returns-3 : tie.Need-returns-3
 returns-3 c = field-named _ (c .before .before .before .before .before .before .others .ensures) (c .before .before .before .before .before .is-blank-from .ensures) (not-false _ (c .before .before .before .before .if1 .left)) (c .before .is-first .ensures) (c .if3 .taken)
 
@@ -34,14 +28,5 @@ returns-4 : tie.Need-returns-4
 returns-4 c = field-digit _ (c .before .before .before .before .before .before .others .ensures) (c .before .before .before .before .before .is-blank-from .ensures) (c .before .before .before .if2 .left) (c .before .is-first .ensures) (c .if3 .left)
 
 pub read-field-spec : {M : Type 1} → statement M
-read-field-spec =
-    tie.close
-    (tie.spec
-    others-requires
-    is-blank-from-requires
-    returns
-    returns-2
-    shared-slice-read-is-first
-    is-first-requires
-    returns-3
-    returns-4)
+read-field-spec = tie.close (tie.spec (search needs) is-blank-from-requires returns returns-2 shared-slice-read-is-first
+    (search needs) returns-3 returns-4)

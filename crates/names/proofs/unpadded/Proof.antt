@@ -1,12 +1,12 @@
 -- `names::unpadded` meets its contract: the invariant: no byte before i is zero.
 -- Assumes nothing.
+use borrow.Author.Needs.{needs}
 use Rattle.names.proofs.Names.{text-part, padding, no-pad}
 use Rattle.names.proofs.Runs.{passed-start, passed-one, run-stop, run-end}
 use Rattle.names.specs.Runs.{Passed}
 use Rattle.names.specs.Names.{nonZero}
 use lib.Seq.{length-take-le, take-all}
 use lib.ListN.{length, getD}
-use native.Mathlib.Omega.{arith}
 use mathlib.Core.Path.{sym, _∙_}
 use Prim.Native.Nat.{_-_}
 use Rattle.names.proofs.unpadded.Statement.{statement}
@@ -21,20 +21,11 @@ abbrev μ-loop : tie.MeasureT-loop
 loop-holds : tie.Need-loop-holds Inv-loop μ-loop
 loop-holds c = passed-start _ _
 
-shared-slice-read-if1 : tie.Need-shared-slice-read-if1 Inv-loop μ-loop
-shared-slice-read-if1 c = omega arith
-
 slice-aggregate-result : tie.Need-slice-aggregate-result Inv-loop μ-loop
 slice-aggregate-result c = sym (length-take-le _ _ (c .before .before .before .before .loop .inv .within))
 
 returns : tie.Need-returns Inv-loop μ-loop
 returns c = text-part _ (run-stop _ _ (c .before .before .before .before .loop .inv) (padding (c .before .if1 .taken)))
-
-add-i : tie.Need-add-i Inv-loop μ-loop
-add-i c = omega arith
-
-loop-less : tie.Need-loop-less Inv-loop μ-loop
-loop-less c = omega arith
 
 loop-again : tie.Need-loop-again Inv-loop μ-loop
 loop-again c = passed-one _ _ (c .before .before .before .loop .inv) (c .before .before .loop-test .taken) (no-pad (c .if1 .left))
@@ -43,16 +34,5 @@ returns-2 : tie.Need-returns-2 Inv-loop μ-loop
 returns-2 c = sym (take-all _ _ (c .loop-test .left)) ∙ text-part _ (run-end _ _ (c .before .loop .inv) (c .loop-test .left))
 
 pub unpadded-spec : {M : Type 1} → statement M
-unpadded-spec =
-    tie.close
-    (tie.spec
-    Inv-loop
-    μ-loop
-    loop-holds
-    shared-slice-read-if1
-    slice-aggregate-result
-    returns
-    add-i
-    loop-less
-    loop-again
-    returns-2)
+unpadded-spec = tie.close (tie.spec Inv-loop μ-loop loop-holds (search needs) slice-aggregate-result returns
+    (search needs) (search needs) loop-again returns-2)

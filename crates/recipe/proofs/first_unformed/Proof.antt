@@ -25,20 +25,8 @@ loop-holds c = (going-start _ _, omega arith)
 read-record-requires : tie.Need-read-record-requires Inv-loop μ-loop
 read-record-requires c κs = here _ _ _ (c .before .before .before .pre .1) (c .before .loop .inv .0) (c .loop-test .taken) .readable
 
-enum-told : tie.Need-enum-told Inv-loop μ-loop
-enum-told c = search needs
-
-enum-told-2 : tie.Need-enum-told-2 Inv-loop μ-loop
-enum-told-2 c = search needs
-
 returns : tie.Need-returns Inv-loop μ-loop
 returns c = at-found (fault-3 _ ∙ going-hit (here _ _ _ (c .before .before .before .before .before .before .pre .1) (c .before .before .before .before .loop .inv .0) (c .before .before .before .loop-test .taken)) (refused-form _ _ (here _ _ _ (c .before .before .before .before .before .before .pre .1) (c .before .before .before .before .loop .inv .0) (c .before .before .before .loop-test .taken) .readable) (sym (c .enum-told2 .given .1) ∙ c .before .before .read-record .ensures)))
-
-shared-slice-read-record-length : tie.Need-shared-slice-read-record-length Inv-loop μ-loop
-shared-slice-read-record-length c = c .before .before .before .before .loop-test .taken
-
-record-length-requires : tie.Need-record-length-requires Inv-loop μ-loop
-record-length-requires c κs = c .before .before .before .before .before .before .before .pre .0
 
 add-p : tie.Need-add-p Inv-loop μ-loop
 add-p c = omega (arith, on-fits (here _ _ _ (c .before .before .before .before .before .before .before .before .pre .1) (c .before .before .before .before .before .before .loop .inv .0) (c .before .before .before .before .before .loop-test .taken)) (c .record-length .ensures))
@@ -53,19 +41,5 @@ returns-2 : tie.Need-returns-2 Inv-loop μ-loop
 returns-2 c = nothing-found (fault-3 _ ∙ going-end (c .before .loop .inv .0) (c .loop-test .left))
 
 pub first-unformed-spec : {M : Type 1} → statement M
-first-unformed-spec =
-    tie.close
-    (tie.spec
-    Inv-loop
-    μ-loop
-    loop-holds
-    read-record-requires
-    enum-told
-    enum-told-2
-    returns
-    shared-slice-read-record-length
-    record-length-requires
-    add-p
-    loop-less
-    loop-again
-    returns-2)
+first-unformed-spec = tie.close (tie.spec Inv-loop μ-loop loop-holds read-record-requires (search needs) (search needs)
+    returns (search needs) (search needs) add-p loop-less loop-again returns-2)

@@ -13,21 +13,9 @@ use Rattle.recipe.proofs.is_readable.Tie as tie
 returns : tie.Need-returns
 returns c = not-past (record { width = c .before .before .args .w; bytes = c .before .before .args .s .now }) _ (c .if1 .taken)
 
-shared-slice-read-k : tie.Need-shared-slice-read-k
-shared-slice-read-k c = search needs
-
-is-known-requires : tie.Need-is-known-requires
-is-known-requires c κs = search needs
-
 returns-2 : tie.Need-returns-2
 unfolding kind
 returns-2 c = unknown (record { width = c .before .before .before .before .before .args .w; bytes = c .before .before .before .before .before .args .s .now }) (c .before .before .before .before .before .args .p) (sym (c .before .is-known .ensures) ∙ not-true (c .before .is-known .result) (c .if2 .taken))
-
-record-length-requires : tie.Need-record-length-requires
-record-length-requires c κs = search needs
-
-sub-if3 : tie.Need-sub-if3
-sub-if3 c = search needs
 
 returns-3 : tie.Need-returns-3
 unfolding kind next
@@ -42,15 +30,5 @@ unfolding kind next
 returns-5 c = whole-other (record { width = c .before .before .before .before .before .before .before .before .args .w; bytes = c .before .before .before .before .before .before .before .before .args .s .now }) (c .before .before .before .before .before .before .before .before .args .p) (c .if4 .left) (sym (c .before .before .before .before .is-known .ensures) ∙ not-false (c .before .before .before .before .is-known .result) (c .before .before .before .if2 .left)) (omega (arith, c .before .before .record-length .ensures))
 
 pub is-readable-spec : {M : Type 1} → statement M
-is-readable-spec =
-    tie.close
-    (tie.spec
-    returns
-    shared-slice-read-k
-    is-known-requires
-    returns-2
-    record-length-requires
-    sub-if3
-    returns-3
-    returns-4
-    returns-5)
+is-readable-spec = tie.close (tie.spec returns (search needs) (search needs) returns-2 (search needs) (search needs)
+    returns-3 returns-4 returns-5)

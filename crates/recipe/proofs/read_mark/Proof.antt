@@ -17,29 +17,17 @@ submodel-offset-requires c κs = or-left (markKind (c .before .args .k)) (portKi
 field-at-requires : tie.Need-field-at-requires
 field-at-requires c κs = let t = mark-target _ _ (c .before .before .pre) (c .submodel-offset .ensures) in omega (arith, t .room)
 
-enum-told : tie.Need-enum-told
-enum-told c = search needs
-
 returns : tie.Need-returns
 returns c = mark-nameless _ _ (mark-is _ _ (c .before .before .before .before .pre)) (is-no-name _ (c .before .field-at .ensures) (c .match .keys2))
 
 field-at-requires-2 : tie.Need-field-at-requires-2
 field-at-requires-2 c κs = let t = mark-target _ _ (c .before .before .before .before .before .pre) (c .before .before .before .submodel-offset .ensures) in omega (arith, t .room)
 
-enum-told-2 : tie.Need-enum-told-2
-enum-told-2 c = search needs
-
 returns-2 : tie.Need-returns-2
 returns-2 c = mark-submodelless _ _ (mark-is _ _ (c .before .before .before .before .before .before .before .pre)) _ (mark-target _ _ (c .before .before .before .before .before .before .before .pre) (c .before .before .before .before .before .submodel-offset .ensures) .begins) (is-name _ (sym (c .before .before .enum-told .given .1) ∙ c .before .before .before .before .field-at .ensures)) (is-no-name _ (c .before .field-at2 .ensures) (c .match2 .keys2))
 
 read-target-requires : tie.Need-read-target-requires
 read-target-requires c κs = mark-target _ _ (c .before .before .before .before .before .before .before .before .pre) (c .before .before .before .before .before .before .submodel-offset .ensures)
-
-enum-known-way : tie.Need-enum-known-way
-enum-known-way c = search needs
-
-enum-told-3 : tie.Need-enum-told-3
-enum-told-3 c = search needs
 
 returns-3 : tie.Need-returns-3
 returns-3 c = mark-untargeted _ _ (mark-is _ _ (c .before .before .before .before .before .before .before .before .before .before .before .pre)) _ (mark-target _ _ (c .before .before .before .before .before .before .before .before .before .before .before .pre) (c .before .before .before .before .before .before .before .before .before .submodel-offset .ensures) .begins) (is-name _ (sym (c .before .before .before .before .before .before .enum-told .given .1) ∙ c .before .before .before .before .before .before .before .before .field-at .ensures)) (is-name _ (sym (c .before .before .before .enum-told2 .given .1) ∙ c .before .before .before .before .before .field-at2 .ensures)) (sym (c .enum-told3 .given .1) ∙ c .before .before .read-target .ensures)
@@ -57,21 +45,6 @@ returns-4 : tie.Need-returns-4
 returns-4 c = mark-read _ _ (mark-is _ _ (c .before .before .before .before .before .before .before .before .before .before .before .before .pre)) _ (mark-target _ _ (c .before .before .before .before .before .before .before .before .before .before .before .before .pre) (c .before .before .before .before .before .before .before .before .before .before .submodel-offset .ensures) .begins) (is-name _ (sym (c .before .before .before .before .before .before .before .enum-told .given .1) ∙ c .before .before .before .before .before .before .before .before .before .field-at .ensures)) (is-name _ (sym (c .before .before .before .before .enum-told2 .given .1) ∙ c .before .before .before .before .before .before .field-at2 .ensures)) (sym (c .before .way .given .1) ∙ c .before .before .before .read-target .ensures)
 
 pub read-mark-spec : {M : Type 1} → statement M
-read-mark-spec =
-    tie.close
-    (tie.spec
-    submodel-offset-requires
-    field-at-requires
-    enum-told
-    returns
-    field-at-requires-2
-    enum-told-2
-    returns-2
-    read-target-requires
-    enum-known-way
-    enum-told-3
-    returns-3
-    add-t10
-    add-t11
-    add-t12
-    returns-4)
+read-mark-spec = tie.close (tie.spec submodel-offset-requires field-at-requires (search needs) returns
+    field-at-requires-2 (search needs) returns-2 read-target-requires (search needs) (search needs) returns-3 add-t10
+    add-t11 add-t12 returns-4)

@@ -7,20 +7,11 @@ use borrow.Author.Needs.{needs}
 use Rattle.recipe.proofs.read_model.Statement.{statement}
 use Rattle.recipe.proofs.read_model.Tie as tie
 
-field-at-requires : tie.Need-field-at-requires
-field-at-requires c κs = search needs
-
-enum-told : tie.Need-enum-told
-enum-told c = search needs
-
 returns : tie.Need-returns
 returns c = model-refused _ _ (c .before .before .before .pre .kinded) (is-no-name _ (c .before .field-at .ensures) (c .match .keys2))
-
-add-t5 : tie.Need-add-t5
-add-t5 c = search needs
 
 returns-2 : tie.Need-returns-2
 returns-2 c = model-read _ _ (c .before .before .before .before .pre .kinded) (is-name _ (sym (c .enum-told .given .1) ∙ c .before .before .field-at .ensures))
 
 pub read-model-spec : {M : Type 1} → statement M
-read-model-spec = tie.close (tie.spec field-at-requires enum-told returns add-t5 returns-2)
+read-model-spec = tie.close (tie.spec (search needs) (search needs) returns (search needs) returns-2)

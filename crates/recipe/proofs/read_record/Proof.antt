@@ -16,29 +16,14 @@ shared-slice-read-k c = in-recipe _ _ (c .before .before .pre)
 read-model-requires : tie.Need-read-model-requires
 read-model-requires c κs = at-1 _ _ (c .before .before .before .pre) (of-kind _ _ (c .if1 .taken))
 
-returns : tie.Need-returns
-returns c = search needs
-
 read-element-requires : tie.Need-read-element-requires
 read-element-requires c κs = at-2 _ _ (c .before .before .before .before .pre) (of-kind _ _ (c .if2 .taken))
-
-returns-2 : tie.Need-returns-2
-returns-2 c = search needs
 
 read-port-requires : tie.Need-read-port-requires
 read-port-requires c κs = at-3 _ _ (c .before .before .before .before .before .pre) (of-kind _ _ (c .if3 .taken))
 
-returns-3 : tie.Need-returns-3
-returns-3 c = search needs
-
 read-submodel-requires : tie.Need-read-submodel-requires
 read-submodel-requires c κs = at-4 _ _ (c .before .before .before .before .before .before .pre) (of-kind _ _ (c .if4 .taken))
-
-returns-4 : tie.Need-returns-4
-returns-4 c = search needs
-
-is-mark-requires : tie.Need-is-mark-requires
-is-mark-requires c κs = search needs
 
 returns-5 : tie.Need-returns-5
 unfolding kind
@@ -48,24 +33,12 @@ read-mark-requires : tie.Need-read-mark-requires
 unfolding kind
 read-mark-requires c κs = mark-at (record { width = c .before .before .before .before .before .before .before .before .args .w; bytes = c .before .before .before .before .before .before .before .before .args .s .now }) (c .before .before .before .before .before .before .before .before .args .p) (c .before .before .before .before .before .before .before .before .pre) refl (sym (c .before .is-mark .ensures) ∙ not-false (c .before .is-mark .result) (c .if5 .left))
 
-enum-known-m : tie.Need-enum-known-m
-enum-known-m c = search needs
-
-enum-told : tie.Need-enum-told
-enum-told c = search needs
-
 returns-6 : tie.Need-returns-6
 returns-6 c = unmarked _ _ (sym (c .enum-told .given .1) ∙ c .before .before .read-mark .ensures)
-
-is-deletion-requires : tie.Need-is-deletion-requires
-is-deletion-requires c κs = search needs
 
 returns-7 : tie.Need-returns-7
 unfolding kind
 returns-7 c = deletion-read (record { width = c .before .before .before .before .before .before .before .before .before .before .before .before .before .before .args .w; bytes = c .before .before .before .before .before .before .before .before .before .before .before .before .before .before .args .s .now }) (c .before .before .before .before .before .before .before .before .before .before .before .before .before .before .args .p) (sym (c .before .is-deletion .ensures) ∙ c .if6 .taken) (sym (c .before .before .before .m .given .1) ∙ c .before .before .before .before .before .read-mark .ensures)
-
-is-replaced-by-requires : tie.Need-is-replaced-by-requires
-is-replaced-by-requires c κs = search needs
 
 returns-8 : tie.Need-returns-8
 unfolding kind
@@ -76,26 +49,7 @@ unfolding kind
 returns-9 c = replacement-read (record { width = c .before .before .before .before .before .before .before .before .before .before .before .before .before .before .before .before .args .w; bytes = c .before .before .before .before .before .before .before .before .before .before .before .before .before .before .before .before .args .s .now }) (c .before .before .before .before .before .before .before .before .before .before .before .before .before .before .before .before .args .p) (sym (c .before .before .before .before .before .before .before .before .before .is-mark .ensures) ∙ not-false (c .before .before .before .before .before .before .before .before .before .is-mark .result) (c .before .before .before .before .before .before .before .before .if5 .left)) (sym (c .before .before .before .is-deletion .ensures) ∙ c .before .before .if6 .left) (sym (c .before .is-replaced-by .ensures) ∙ c .if7 .left) (sym (c .before .before .before .before .before .m .given .1) ∙ c .before .before .before .before .before .before .before .read-mark .ensures)
 
 pub read-record-spec : {M : Type 1} → statement M
-read-record-spec =
-    tie.close
-    (tie.spec
-    shared-slice-read-k
-    read-model-requires
-    returns
-    read-element-requires
-    returns-2
-    read-port-requires
-    returns-3
-    read-submodel-requires
-    returns-4
-    is-mark-requires
-    returns-5
-    read-mark-requires
-    enum-known-m
-    enum-told
-    returns-6
-    is-deletion-requires
-    returns-7
-    is-replaced-by-requires
-    returns-8
-    returns-9)
+read-record-spec = tie.close (tie.spec shared-slice-read-k read-model-requires (λ c. search needs) read-element-requires
+    (λ c. search needs) read-port-requires (λ c. search needs) read-submodel-requires (λ c. search needs) (search needs)
+    returns-5 read-mark-requires (search needs) (search needs) returns-6 (search needs) returns-7 (search needs)
+    returns-8 returns-9)

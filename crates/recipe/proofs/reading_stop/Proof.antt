@@ -19,14 +19,8 @@ abbrev μ-loop : tie.MeasureT-loop
 loop-holds : tie.Need-loop-holds Inv-loop μ-loop
 loop-holds c = (omega arith, left-start (record { width = c .before .args .w; bytes = c .before .args .s .now }))
 
-is-readable-requires : tie.Need-is-readable-requires Inv-loop μ-loop
-is-readable-requires c κs = search needs
-
 shared-slice-read-record-length : tie.Need-shared-slice-read-record-length Inv-loop μ-loop
 shared-slice-read-record-length c = let e = sym (c .before .before .is-readable .ensures) ∙ c .before .if1 .taken in omega (arith, readable-fits (record { width = c .before .before .before .before .before .args .w; bytes = c .before .before .before .before .before .args .s .now }) (c .before .before .before .loop .p) e, next-more (record { width = c .before .before .before .before .before .args .w; bytes = c .before .before .before .before .before .args .s .now }) (c .before .before .before .loop .p))
-
-record-length-requires : tie.Need-record-length-requires Inv-loop μ-loop
-record-length-requires c κs = search needs
 
 add-p : tie.Need-add-p Inv-loop μ-loop
 unfolding kind next
@@ -44,16 +38,5 @@ returns : tie.Need-returns Inv-loop μ-loop
 returns c = left-end (record { width = c .before .before .before .before .args .w; bytes = c .before .before .before .before .args .s .now }) _ (sym (c .before .is-readable .ensures) ∙ c .if1 .left) (c .before .before .loop .inv .1)
 
 pub reading-stop-spec : {M : Type 1} → statement M
-reading-stop-spec =
-    tie.close
-    (tie.spec
-    Inv-loop
-    μ-loop
-    loop-holds
-    is-readable-requires
-    shared-slice-read-record-length
-    record-length-requires
-    add-p
-    loop-less
-    loop-again
-    returns)
+reading-stop-spec = tie.close (tie.spec Inv-loop μ-loop loop-holds (search needs) shared-slice-read-record-length
+    (search needs) add-p loop-less loop-again returns)

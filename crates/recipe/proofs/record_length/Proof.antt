@@ -5,27 +5,6 @@ use borrow.Author.Needs.{needs}
 use Rattle.recipe.proofs.record_length.Statement.{statement}
 use Rattle.recipe.proofs.record_length.Tie as tie
 
-add-result : tie.Need-add-result
-add-result c = search needs
-
-mul-result : tie.Need-mul-result
-mul-result c = search needs
-
-add-result-2 : tie.Need-add-result-2
-add-result-2 c = search needs
-
-mul-result-2 : tie.Need-mul-result-2
-mul-result-2 c = search needs
-
-add-result-3 : tie.Need-add-result-3
-add-result-3 c = search needs
-
-mul-result-3 : tie.Need-mul-result-3
-mul-result-3 c = search needs
-
-add-result-4 : tie.Need-add-result-4
-add-result-4 c = search needs
-
 returns : tie.Need-returns
 returns c = length-model _ (c .match .keys1)
 
@@ -45,19 +24,5 @@ returns-6 : tie.Need-returns-6
 returns-6 c = length-past _ _ (c .if2 .left)
 
 pub record-length-spec : {M : Type 1} → statement M
-record-length-spec =
-    tie.close
-    (tie.spec
-    add-result
-    mul-result
-    add-result-2
-    mul-result-2
-    add-result-3
-    mul-result-3
-    add-result-4
-    returns
-    returns-2
-    returns-3
-    returns-4
-    returns-5
-    returns-6)
+record-length-spec = tie.close (tie.spec (search needs) (search needs) (search needs) (search needs) (search needs)
+    (search needs) (search needs) returns returns-2 returns-3 returns-4 returns-5 returns-6)

@@ -7,9 +7,6 @@ use borrow.Author.Needs.{needs}
 use Rattle.recipe.proofs.submodel_offset.Statement.{statement}
 use Rattle.recipe.proofs.submodel_offset.Tie as tie
 
-is-deletion-requires : tie.Need-is-deletion-requires
-is-deletion-requires c κs = search needs
-
 returns : tie.Need-returns
 returns c = let e = eqb-true (c .before .before .args .k) 5 (sym (c .before .is-deletion .ensures) ∙ c .if1 .taken) in rw e
 
@@ -17,4 +14,4 @@ returns-2 : tie.Need-returns-2
 returns-2 c = offset-behind (c .before .before .args .w) (c .before .before .args .k) (c .before .before .pre) (sym (c .before .is-deletion .ensures) ∙ c .if1 .left)
 
 pub submodel-offset-spec : {M : Type 1} → statement M
-submodel-offset-spec = tie.close (tie.spec is-deletion-requires returns returns-2)
+submodel-offset-spec = tie.close (tie.spec (search needs) returns returns-2)

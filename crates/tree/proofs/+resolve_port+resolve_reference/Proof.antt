@@ -1,14 +1,9 @@
--- `tree::resolve_port`, `resolve_reference` meets its contract: the record that is named, and, if it is a port, what that names; the number of records falls.
--- Assumes nothing.
-use Prim.Native.Nat.{_+_, _<_, ℕ}
-use lib.ListN.{getD}
-use mathlib.Core.Path.{_∙_, ap, refl, sym}
+-- `tree::resolve_port` and `tree::resolve_reference` meet their contracts: what is kept, or the record that is named and, if it is a port, what that names.
+-- A port leads to its own reference, a reference to a port of a definition that is lower. Assumes nothing.
+use Prim.Native.Nat.{_*_, _+_, _<_, ℕ}
+use mathlib.Core.Path.{refl}
 use native.Mathlib.Omega.{arith}
-use Rattle.names.proofs.Tests.{or-right}
-use Rattle.recipe.specs.Records.{isMark}
-use Rattle.recipe.proofs.Going.{here}
-use Rattle.recipe.proofs.Reading.{place-low}
-use Rattle.tree.proofs.Resolving.{blank-is, filled-is, next-low, port-none, port-own, ref-element, ref-none, ref-port, ref-port-in, resolve-zero, sub-low}
+use Rattle.tree.proofs.Remembering.{element-answers, height-of, kept-answers, named-asks, none-named, offset-asks, port-answers, port-falls, port-none, port-requires, row-of}
 use borrow.Fn.Kinds.{In}
 use borrow.Fn.PlainCycle.{Measures, is, falls, and}
 use Rattle.tree.proofs.resolve_port.Reads as resolve-port
@@ -17,599 +12,173 @@ use Rattle.tree.proofs.+resolve_port+resolve_reference.Lts-resolve_port
 use Rattle.tree.proofs.resolve_reference.Reads as resolve-reference
 use Rattle.tree.proofs.resolve_reference.Kinds as resolve-reference-kinds
 use Rattle.tree.proofs.+resolve_port+resolve_reference.Lts-resolve_reference as resolve-reference-lts
-use Rattle.recipe.proofs.wide.Reads as wide-reads
+use Rattle.shadow.proofs.cell.Reads as cell-reads
+use Rattle.tree.proofs.add_numbers.Reads as add-numbers-reads
+use Rattle.tree.proofs.keep_target.Reads as keep-target-reads
+use Rattle.tree.proofs.offset_of.Reads as offset-of-reads
 use Rattle.tree.proofs.+resolve_port+resolve_reference.{statement}
 use Rattle.tree.proofs.+resolve_port+resolve_reference.Tie.{close}
 
-abbrev μ-resolve-port : Measures 5 resolve-port-kinds.ps ℕ
-μ-resolve-port κs a = a .1 .1 .1 .1 .1 .1 .1 .0 + a .1 .1 .1 .1 .1 .1 .1 .0 + 1
+abbrev μ-resolve-port : Measures 2 resolve-port-kinds.ps ℕ
+μ-resolve-port κs a = 2 * height-of (a .1 .1 .0 .now) (a .1 .1 .1 .0) + 1
 
-abbrev μ-resolve-reference : Measures 5 resolve-reference-kinds.ps ℕ
-μ-resolve-reference κs a = a .1 .1 .1 .1 .1 .1 .1 .0 + a .1 .1 .1 .1 .1 .1 .1 .0
+abbrev μ-resolve-reference : Measures 2 resolve-reference-kinds.ps ℕ
+μ-resolve-reference κs a = 2 * height-of (a .1 .1 .0 .now) (a .1 .1 .1 .0)
 
-abbrev resolve-port-at : ℕ → In 5 resolve-port-kinds.ps
-resolve-port-at t =
-    and 5 resolve-port-kinds.ps (is 5 resolve-port-kinds.ps μ-resolve-port t) resolve-port.Pre
+abbrev resolve-port-at : ℕ → In 2 resolve-port-kinds.ps
+resolve-port-at t = and 2 resolve-port-kinds.ps (is 2 resolve-port-kinds.ps μ-resolve-port t) resolve-port.Pre
 
-abbrev resolve-port-below : ℕ → In 5 resolve-port-kinds.ps
-resolve-port-below t =
-    and
-    5
-    resolve-port-kinds.ps
-    (falls 5 resolve-port-kinds.ps _<_ μ-resolve-port t)
-    resolve-port.Pre
+abbrev resolve-port-below : ℕ → In 2 resolve-port-kinds.ps
+resolve-port-below t = and 2 resolve-port-kinds.ps (falls 2 resolve-port-kinds.ps _<_ μ-resolve-port t) resolve-port.Pre
 
-abbrev resolve-reference-at : ℕ → In 5 resolve-reference-kinds.ps
-resolve-reference-at t =
-    and
-    5
-    resolve-reference-kinds.ps
-    (is 5 resolve-reference-kinds.ps μ-resolve-reference t)
-    resolve-reference.Pre
+abbrev resolve-reference-at : ℕ → In 2 resolve-reference-kinds.ps
+resolve-reference-at t = and 2 resolve-reference-kinds.ps (is 2 resolve-reference-kinds.ps μ-resolve-reference t) resolve-reference.Pre
 
-abbrev resolve-reference-below : ℕ → In 5 resolve-reference-kinds.ps
-resolve-reference-below t =
-    and
-    5
-    resolve-reference-kinds.ps
-    (falls 5 resolve-reference-kinds.ps _<_ μ-resolve-reference t)
-    resolve-reference.Pre
+abbrev resolve-reference-below : ℕ → In 2 resolve-reference-kinds.ps
+resolve-reference-below t = and 2 resolve-reference-kinds.ps (falls 2 resolve-reference-kinds.ps _<_ μ-resolve-reference t) resolve-reference.Pre
 
-resolve-port-returns : (t : ℕ) → resolve-port-lts.Need-returns (
-  wide-reads.Asked,
-  wide-reads.Learnt,
-  resolve-reference-below t,
-  resolve-reference.Post,
-) (resolve-port-at t) resolve-port.Post
-resolve-port-returns t c =
-    let st = c .before .before in
-    let a = st .args in
-    let N = st .pre .1 .0 in
-    let here = st .pre .1 .1 .0 in
-    let sort = st .pre .1 .1 .1 .0 in
-    let few = st .pre .1 .1 .1 .1 in
-    let low = place-low (record { width = a .w; bytes = a .s .now }) (a .q) here in
-    resolve-zero (record { width = a .w; bytes = a .s .now }) (a .n) (a .q) (c .if1 .taken)
+abbrev port-claims : ℕ → resolve-port-lts.Claims
+port-claims t = (cell-reads.Asked, cell-reads.Learnt, resolve-reference-below t, resolve-reference.Post)
 
-resolve-port-mul-wide : (t : ℕ) → resolve-port-lts.Need-mul-wide (
-  wide-reads.Asked,
-  wide-reads.Learnt,
-  resolve-reference-below t,
-  resolve-reference.Post,
-) (resolve-port-at t) resolve-port.Post
-resolve-port-mul-wide t c =
-    let st = c .before .before in
-    let a = st .args in
-    let N = st .pre .1 .0 in
-    let here = st .pre .1 .1 .0 in
-    let sort = st .pre .1 .1 .1 .0 in
-    let few = st .pre .1 .1 .1 .1 in
-    let low = place-low (record { width = a .w; bytes = a .s .now }) (a .q) here in
-    omega (arith, low, N .short)
+abbrev reference-claims : ℕ → resolve-reference-lts.Claims
+reference-claims t = (cell-reads.Asked, cell-reads.Learnt, offset-of-reads.Asked, offset-of-reads.Learnt, add-numbers-reads.Asked, add-numbers-reads.Learnt, keep-target-reads.Asked, keep-target-reads.Learnt, resolve-port-below t, resolve-port.Post)
 
-resolve-port-element-copy-out-wide : (t : ℕ) → resolve-port-lts.Need-element-copy-out-wide (
-  wide-reads.Asked,
-  wide-reads.Learnt,
-  resolve-reference-below t,
-  resolve-reference.Post,
-) (resolve-port-at t) resolve-port.Post
-resolve-port-element-copy-out-wide t c =
-    let st = c .before .before in
-    let a = st .args in
-    let N = st .pre .1 .0 in
-    let here = st .pre .1 .1 .0 in
-    let sort = st .pre .1 .1 .1 .0 in
-    let few = st .pre .1 .1 .1 .1 in
-    let low = place-low (record { width = a .w; bytes = a .s .now }) (a .q) here in
-    omega (arith, low, N .short)
+resolve-port-cell-requires : (t : ℕ) → resolve-port-lts.Need-cell-requires (port-claims t) (resolve-port-at t) resolve-port.Post
+resolve-port-cell-requires t c κs = omega (arith, row-of (c .before .before .before .pre .1))
 
-resolve-port-wide-requires : (t : ℕ) → resolve-port-lts.Need-wide-requires (
-  wide-reads.Asked,
-  wide-reads.Learnt,
-  resolve-reference-below t,
-  resolve-reference.Post,
-) (resolve-port-at t) resolve-port.Post
-resolve-port-wide-requires t c κs = tt
+resolve-port-same-length : (t : ℕ) → resolve-port-lts.Need-same-length (port-claims t) (resolve-port-at t) resolve-port.Post
+resolve-port-same-length t c = refl
 
-resolve-port-resolve-reference-requires :
-    (t : ℕ) → resolve-port-lts.Need-resolve-reference-requires (
-      wide-reads.Asked,
-      wide-reads.Learnt,
-      resolve-reference-below t,
-      resolve-reference.Post,
-    ) (resolve-port-at t) resolve-port.Post
-resolve-port-resolve-reference-requires t c κs =
-    let st = c .before .before .before .before .before in
-    let a = st .args in
-    let N = st .pre .1 .0 in
-    let here = st .pre .1 .1 .0 in
-    let sort = st .pre .1 .1 .1 .0 in
-    let few = st .pre .1 .1 .1 .1 in
-    let low = place-low (record { width = a .w; bytes = a .s .now }) (a .q) here in
-    (omega (arith, st .pre .0), (N, (here, (sort, (few, (filled-is (record { width = a .w; bytes = a .s .now }) (a .sub .now) (a .nxt .now) (a .ord .now) N (a .off .now) (a .q) here sort (λ z. c .if2 .taken (c .before .wide .ensures .0 ∙ z)), c .before .before .before .if1 .left))))))
+resolve-port-returns : (t : ℕ) → resolve-port-lts.Need-returns (port-claims t) (resolve-port-at t) resolve-port.Post
+resolve-port-returns t c = kept-answers (c .before .before .before .before .before .pre .1) (c .before .cell .ensures .0) (c .if1 .taken)
 
-resolve-port-returns-2 : (t : ℕ) → resolve-port-lts.Need-returns-2 (
-  wide-reads.Asked,
-  wide-reads.Learnt,
-  resolve-reference-below t,
-  resolve-reference.Post,
-) (resolve-port-at t) resolve-port.Post
-resolve-port-returns-2 t c = c .resolve-reference .ensures
+resolve-port-resolve-reference-requires : (t : ℕ) → resolve-port-lts.Need-resolve-reference-requires (port-claims t) (resolve-port-at t) resolve-port.Post
+resolve-port-resolve-reference-requires t c κs = (omega (arith, c .before .before .before .before .before .before .pre .0), c .before .before .before .before .before .before .pre .1)
 
-resolve-port-mul-wide-2 : (t : ℕ) → resolve-port-lts.Need-mul-wide-2 (
-  wide-reads.Asked,
-  wide-reads.Learnt,
-  resolve-reference-below t,
-  resolve-reference.Post,
-) (resolve-port-at t) resolve-port.Post
-resolve-port-mul-wide-2 t c =
-    let st = c .before .before .before .before .before in
-    let a = st .args in
-    let N = st .pre .1 .0 in
-    let here = st .pre .1 .1 .0 in
-    let sort = st .pre .1 .1 .1 .0 in
-    let few = st .pre .1 .1 .1 .1 in
-    let low = place-low (record { width = a .w; bytes = a .s .now }) (a .q) here in
-    omega (arith, low, N .short)
+resolve-port-same-length-2 : (t : ℕ) → resolve-port-lts.Need-same-length-2 (port-claims t) (resolve-port-at t) resolve-port.Post
+resolve-port-same-length-2 t c = c .before .before .resolve-reference .ensures .kept .long
 
-resolve-port-element-copy-out-wide-2 : (t : ℕ) → resolve-port-lts.Need-element-copy-out-wide-2 (
-  wide-reads.Asked,
-  wide-reads.Learnt,
-  resolve-reference-below t,
-  resolve-reference.Post,
-) (resolve-port-at t) resolve-port.Post
-resolve-port-element-copy-out-wide-2 t c =
-    let st = c .before .before .before .before .before in
-    let a = st .args in
-    let N = st .pre .1 .0 in
-    let here = st .pre .1 .1 .0 in
-    let sort = st .pre .1 .1 .1 .0 in
-    let few = st .pre .1 .1 .1 .1 in
-    let low = place-low (record { width = a .w; bytes = a .s .now }) (a .q) here in
-    omega (arith, low, N .short)
+resolve-port-returns-2 : (t : ℕ) → resolve-port-lts.Need-returns-2 (port-claims t) (resolve-port-at t) resolve-port.Post
+resolve-port-returns-2 t c = c .before .before .resolve-reference .ensures
 
-resolve-port-wide-requires-2 : (t : ℕ) → resolve-port-lts.Need-wide-requires-2 (
-  wide-reads.Asked,
-  wide-reads.Learnt,
-  resolve-reference-below t,
-  resolve-reference.Post,
-) (resolve-port-at t) resolve-port.Post
-resolve-port-wide-requires-2 t c κs = tt
+resolve-reference-cell-requires : (t : ℕ) → resolve-reference-lts.Need-cell-requires (reference-claims t) (resolve-reference-at t) resolve-reference.Post
+resolve-reference-cell-requires t c κs = omega (arith, row-of (c .before .before .before .pre .1))
 
-resolve-port-returns-3 : (t : ℕ) → resolve-port-lts.Need-returns-3 (
-  wide-reads.Asked,
-  wide-reads.Learnt,
-  resolve-reference-below t,
-  resolve-reference.Post,
-) (resolve-port-at t) resolve-port.Post
-resolve-port-returns-3 t c =
-    let st = c .before .before .before .before .before .before .before .before in
-    let a = st .args in
-    let N = st .pre .1 .0 in
-    let here = st .pre .1 .1 .0 in
-    let sort = st .pre .1 .1 .1 .0 in
-    let few = st .pre .1 .1 .1 .1 in
-    let low = place-low (record { width = a .w; bytes = a .s .now }) (a .q) here in
-    port-none (record { width = a .w; bytes = a .s .now }) (a .sub .now) (a .nxt .now) (a .ord .now) N (a .off .now) (a .q) here sort (a .n) (c .before .before .before .before .before .before .if1 .left) (blank-is (record { width = a .w; bytes = a .s .now }) (a .sub .now) (a .nxt .now) (a .ord .now) N (a .off .now) (a .q) here sort (sym (c .before .before .before .before .wide .ensures .0) ∙ c .before .before .before .if2 .left)) (sym (c .before .wide2 .ensures .0) ∙ c .if3 .taken)
+resolve-reference-same-length : (t : ℕ) → resolve-reference-lts.Need-same-length (reference-claims t) (resolve-reference-at t) resolve-reference.Post
+resolve-reference-same-length t c = refl
 
-resolve-port-mul-wide-3 : (t : ℕ) → resolve-port-lts.Need-mul-wide-3 (
-  wide-reads.Asked,
-  wide-reads.Learnt,
-  resolve-reference-below t,
-  resolve-reference.Post,
-) (resolve-port-at t) resolve-port.Post
-resolve-port-mul-wide-3 t c =
-    let st = c .before .before .before .before .before .before .before .before in
-    let a = st .args in
-    let N = st .pre .1 .0 in
-    let here = st .pre .1 .1 .0 in
-    let sort = st .pre .1 .1 .1 .0 in
-    let few = st .pre .1 .1 .1 .1 in
-    let low = place-low (record { width = a .w; bytes = a .s .now }) (a .q) here in
-    omega (arith, N .short, next-low (record { width = a .w; bytes = a .s .now }) (a .sub .now) (a .nxt .now) (a .ord .now) N (a .off .now) (a .q) here sort (c .before .wide2 .result) (c .before .wide2 .ensures .0) (c .if3 .left))
+resolve-reference-returns : (t : ℕ) → resolve-reference-lts.Need-returns (reference-claims t) (resolve-reference-at t) resolve-reference.Post
+resolve-reference-returns t c = none-named (c .before .before .before .before .before .pre .1) (c .before .cell .ensures .0) (c .if1 .taken)
 
-resolve-port-element-copy-out-wide-3 : (t : ℕ) → resolve-port-lts.Need-element-copy-out-wide-3 (
-  wide-reads.Asked,
-  wide-reads.Learnt,
-  resolve-reference-below t,
-  resolve-reference.Post,
-) (resolve-port-at t) resolve-port.Post
-resolve-port-element-copy-out-wide-3 t c =
-    let st = c .before .before .before .before .before .before .before .before in
-    let a = st .args in
-    let N = st .pre .1 .0 in
-    let here = st .pre .1 .1 .0 in
-    let sort = st .pre .1 .1 .1 .0 in
-    let few = st .pre .1 .1 .1 .1 in
-    let low = place-low (record { width = a .w; bytes = a .s .now }) (a .q) here in
-    omega (arith, N .short, next-low (record { width = a .w; bytes = a .s .now }) (a .sub .now) (a .nxt .now) (a .ord .now) N (a .off .now) (a .q) here sort (c .before .wide2 .result) (c .before .wide2 .ensures .0) (c .if3 .left))
+resolve-reference-offset-of-requires : (t : ℕ) → resolve-reference-lts.Need-offset-of-requires (reference-claims t) (resolve-reference-at t) resolve-reference.Post
+resolve-reference-offset-of-requires t c κs = offset-asks (c .before .before .before .before .before .before .pre .1)
 
-resolve-port-wide-requires-3 : (t : ℕ) → resolve-port-lts.Need-wide-requires-3 (
-  wide-reads.Asked,
-  wide-reads.Learnt,
-  resolve-reference-below t,
-  resolve-reference.Post,
-) (resolve-port-at t) resolve-port.Post
-resolve-port-wide-requires-3 t c κs = tt
+resolve-reference-shared-slice-read-if2 : (t : ℕ) → resolve-reference-lts.Need-shared-slice-read-if2 (reference-claims t) (resolve-reference-at t) resolve-reference.Post
+resolve-reference-shared-slice-read-if2 t c = named-asks (c .before .before .before .before .before .before .before .before .pre .1) (c .before .before .before .before .cell .ensures .0) (c .before .before .before .if1 .left) .1
 
-resolve-port-returns-4 : (t : ℕ) → resolve-port-lts.Need-returns-4 (
-  wide-reads.Asked,
-  wide-reads.Learnt,
-  resolve-reference-below t,
-  resolve-reference.Post,
-) (resolve-port-at t) resolve-port.Post
-resolve-port-returns-4 t c =
-    let st = c .before .before .before .before .before .before .before .before .before .before in
-    let a = st .args in
-    let N = st .pre .1 .0 in
-    let here = st .pre .1 .1 .0 in
-    let sort = st .pre .1 .1 .1 .0 in
-    let few = st .pre .1 .1 .1 .1 in
-    let low = place-low (record { width = a .w; bytes = a .s .now }) (a .q) here in
-    port-own (record { width = a .w; bytes = a .s .now }) (a .sub .now) (a .nxt .now) (a .ord .now) N (a .off .now) (a .q) here sort (a .n) (c .before .before .before .wide2 .result) (c .wide3 .result) (c .before .before .before .before .before .before .before .before .if1 .left) (blank-is (record { width = a .w; bytes = a .s .now }) (a .sub .now) (a .nxt .now) (a .ord .now) N (a .off .now) (a .q) here sort (sym (c .before .before .before .before .before .before .wide .ensures .0) ∙ c .before .before .before .before .before .if2 .left)) (c .before .before .before .wide2 .ensures .0) (c .before .before .if3 .left) (c .wide3 .ensures .0) (c .wide3 .ensures .1)
+resolve-reference-cell-requires-2 : (t : ℕ) → resolve-reference-lts.Need-cell-requires-2 (reference-claims t) (resolve-reference-at t) resolve-reference.Post
+resolve-reference-cell-requires-2 t c κs = omega (arith, named-asks (c .before .before .before .before .before .before .before .before .before .before .pre .1) (c .before .before .before .before .before .before .cell .ensures .0) (c .before .before .before .before .before .if1 .left) .0)
 
-resolve-reference-mul-wide : (t : ℕ) → resolve-reference-lts.Need-mul-wide (
-  wide-reads.Asked,
-  wide-reads.Learnt,
-  resolve-port-below t,
-  resolve-port.Post,
-) (resolve-reference-at t) resolve-reference.Post
-resolve-reference-mul-wide t c =
-    let st = c .before in
-    let a = st .args in
-    let N = st .pre .1 .0 in
-    let here = st .pre .1 .1 .0 in
-    let sort = st .pre .1 .1 .1 .0 in
-    let few = st .pre .1 .1 .1 .1 .0 in
-    let filled = st .pre .1 .1 .1 .1 .1 .0 in
-    let up = st .pre .1 .1 .1 .1 .1 .1 in
-    let low = place-low (record { width = a .w; bytes = a .s .now }) (a .r) here in
-    omega (arith, low, N .short)
+resolve-reference-add-numbers-requires : (t : ℕ) → resolve-reference-lts.Need-add-numbers-requires (reference-claims t) (resolve-reference-at t) resolve-reference.Post
+resolve-reference-add-numbers-requires t c κs = (omega (arith, c .before .before .before .before .before .offset-of .ensures .small), omega (arith, c .before .cell2 .ensures .1))
 
-resolve-reference-element-copy-out-wide :
-    (t : ℕ) → resolve-reference-lts.Need-element-copy-out-wide (
-      wide-reads.Asked,
-      wide-reads.Learnt,
-      resolve-port-below t,
-      resolve-port.Post,
-    ) (resolve-reference-at t) resolve-reference.Post
-resolve-reference-element-copy-out-wide t c =
-    let st = c .before in
-    let a = st .args in
-    let N = st .pre .1 .0 in
-    let here = st .pre .1 .1 .0 in
-    let sort = st .pre .1 .1 .1 .0 in
-    let few = st .pre .1 .1 .1 .1 .0 in
-    let filled = st .pre .1 .1 .1 .1 .1 .0 in
-    let up = st .pre .1 .1 .1 .1 .1 .1 in
-    let low = place-low (record { width = a .w; bytes = a .s .now }) (a .r) here in
-    omega (arith, low, N .short)
+resolve-reference-keep-target-requires : (t : ℕ) → resolve-reference-lts.Need-keep-target-requires (reference-claims t) (resolve-reference-at t) resolve-reference.Post
+resolve-reference-keep-target-requires t c κs = (omega (arith, row-of (c .before .before .before .before .before .before .before .before .before .before .before .before .before .pre .1)), (c .before .before .before .before .before .before .before .before .before .cell .ensures .1, c .add-numbers .ensures .0))
 
-resolve-reference-wide-requires : (t : ℕ) → resolve-reference-lts.Need-wide-requires (
-  wide-reads.Asked,
-  wide-reads.Learnt,
-  resolve-port-below t,
-  resolve-port.Post,
-) (resolve-reference-at t) resolve-reference.Post
-resolve-reference-wide-requires t c κs = tt
-
-resolve-reference-returns : (t : ℕ) → resolve-reference-lts.Need-returns (
-  wide-reads.Asked,
-  wide-reads.Learnt,
-  resolve-port-below t,
-  resolve-port.Post,
-) (resolve-reference-at t) resolve-reference.Post
-resolve-reference-returns t c =
-    let st = c .before .before .before .before in
-    let a = st .args in
-    let N = st .pre .1 .0 in
-    let here = st .pre .1 .1 .0 in
-    let sort = st .pre .1 .1 .1 .0 in
-    let few = st .pre .1 .1 .1 .1 .0 in
-    let filled = st .pre .1 .1 .1 .1 .1 .0 in
-    let up = st .pre .1 .1 .1 .1 .1 .1 in
-    let low = place-low (record { width = a .w; bytes = a .s .now }) (a .r) here in
-    ref-none (record { width = a .w; bytes = a .s .now }) (a .sub .now) (a .nxt .now) (a .ord .now) N (a .off .now) (a .r) here sort filled (a .n) up (sym (c .before .wide .ensures .0) ∙ c .if1 .taken)
-
-resolve-reference-mul-wide-2 : (t : ℕ) → resolve-reference-lts.Need-mul-wide-2 (
-  wide-reads.Asked,
-  wide-reads.Learnt,
-  resolve-port-below t,
-  resolve-port.Post,
-) (resolve-reference-at t) resolve-reference.Post
-resolve-reference-mul-wide-2 t c =
-    let st = c .before .before .before .before in
-    let a = st .args in
-    let N = st .pre .1 .0 in
-    let here = st .pre .1 .1 .0 in
-    let sort = st .pre .1 .1 .1 .0 in
-    let few = st .pre .1 .1 .1 .1 .0 in
-    let filled = st .pre .1 .1 .1 .1 .1 .0 in
-    let up = st .pre .1 .1 .1 .1 .1 .1 in
-    let low = place-low (record { width = a .w; bytes = a .s .now }) (a .r) here in
-    omega (arith, low, N .short)
-
-resolve-reference-element-copy-out-wide-2 :
-    (t : ℕ) → resolve-reference-lts.Need-element-copy-out-wide-2 (
-      wide-reads.Asked,
-      wide-reads.Learnt,
-      resolve-port-below t,
-      resolve-port.Post,
-    ) (resolve-reference-at t) resolve-reference.Post
-resolve-reference-element-copy-out-wide-2 t c =
-    let st = c .before .before .before .before in
-    let a = st .args in
-    let N = st .pre .1 .0 in
-    let here = st .pre .1 .1 .0 in
-    let sort = st .pre .1 .1 .1 .0 in
-    let few = st .pre .1 .1 .1 .1 .0 in
-    let filled = st .pre .1 .1 .1 .1 .1 .0 in
-    let up = st .pre .1 .1 .1 .1 .1 .1 in
-    let low = place-low (record { width = a .w; bytes = a .s .now }) (a .r) here in
-    omega (arith, low, N .short)
-
-resolve-reference-wide-requires-2 : (t : ℕ) → resolve-reference-lts.Need-wide-requires-2 (
-  wide-reads.Asked,
-  wide-reads.Learnt,
-  resolve-port-below t,
-  resolve-port.Post,
-) (resolve-reference-at t) resolve-reference.Post
-resolve-reference-wide-requires-2 t c κs = tt
-
-resolve-reference-mul-wide-3 : (t : ℕ) → resolve-reference-lts.Need-mul-wide-3 (
-  wide-reads.Asked,
-  wide-reads.Learnt,
-  resolve-port-below t,
-  resolve-port.Post,
-) (resolve-reference-at t) resolve-reference.Post
-resolve-reference-mul-wide-3 t c =
-    let st = c .before .before .before .before .before .before in
-    let a = st .args in
-    let N = st .pre .1 .0 in
-    let here = st .pre .1 .1 .0 in
-    let sort = st .pre .1 .1 .1 .0 in
-    let few = st .pre .1 .1 .1 .1 .0 in
-    let filled = st .pre .1 .1 .1 .1 .1 .0 in
-    let up = st .pre .1 .1 .1 .1 .1 .1 in
-    let low = place-low (record { width = a .w; bytes = a .s .now }) (a .r) here in
-    omega (arith, N .short, sub-low (record { width = a .w; bytes = a .s .now }) (a .sub .now) (a .nxt .now) (a .ord .now) N (a .off .now) (a .r) here sort filled, c .wide2 .ensures .0)
-
-resolve-reference-element-copy-out-wide-3 :
-    (t : ℕ) → resolve-reference-lts.Need-element-copy-out-wide-3 (
-      wide-reads.Asked,
-      wide-reads.Learnt,
-      resolve-port-below t,
-      resolve-port.Post,
-    ) (resolve-reference-at t) resolve-reference.Post
-resolve-reference-element-copy-out-wide-3 t c =
-    let st = c .before .before .before .before .before .before in
-    let a = st .args in
-    let N = st .pre .1 .0 in
-    let here = st .pre .1 .1 .0 in
-    let sort = st .pre .1 .1 .1 .0 in
-    let few = st .pre .1 .1 .1 .1 .0 in
-    let filled = st .pre .1 .1 .1 .1 .1 .0 in
-    let up = st .pre .1 .1 .1 .1 .1 .1 in
-    let low = place-low (record { width = a .w; bytes = a .s .now }) (a .r) here in
-    omega (arith, N .short, sub-low (record { width = a .w; bytes = a .s .now }) (a .sub .now) (a .nxt .now) (a .ord .now) N (a .off .now) (a .r) here sort filled, c .wide2 .ensures .0)
-
-resolve-reference-wide-requires-3 : (t : ℕ) → resolve-reference-lts.Need-wide-requires-3 (
-  wide-reads.Asked,
-  wide-reads.Learnt,
-  resolve-port-below t,
-  resolve-port.Post,
-) (resolve-reference-at t) resolve-reference.Post
-resolve-reference-wide-requires-3 t c κs = tt
-
-resolve-reference-shared-slice-read-if2 :
-    (t : ℕ) → resolve-reference-lts.Need-shared-slice-read-if2 (
-      wide-reads.Asked,
-      wide-reads.Learnt,
-      resolve-port-below t,
-      resolve-port.Post,
-    ) (resolve-reference-at t) resolve-reference.Post
-resolve-reference-shared-slice-read-if2 t c =
-    let st = c .before .before .before .before .before .before .before .before .before in
-    let a = st .args in
-    let N = st .pre .1 .0 in
-    let here = st .pre .1 .1 .0 in
-    let sort = st .pre .1 .1 .1 .0 in
-    let few = st .pre .1 .1 .1 .1 .0 in
-    let filled = st .pre .1 .1 .1 .1 .1 .0 in
-    let up = st .pre .1 .1 .1 .1 .1 .1 in
-    let low = place-low (record { width = a .w; bytes = a .s .now }) (a .r) here in
-    next-low (record { width = a .w; bytes = a .s .now }) (a .sub .now) (a .nxt .now) (a .ord .now) N (a .off .now) (a .r) here sort (c .before .before .before .before .before .before .wide .result) (c .before .before .before .before .before .before .wide .ensures .0) (c .before .before .before .before .before .if1 .left)
-
-resolve-reference-mul-wide-4 : (t : ℕ) → resolve-reference-lts.Need-mul-wide-4 (
-  wide-reads.Asked,
-  wide-reads.Learnt,
-  resolve-port-below t,
-  resolve-port.Post,
-) (resolve-reference-at t) resolve-reference.Post
-resolve-reference-mul-wide-4 t c =
-    let st = c .before .before .before .before .before .before .before .before .before .before in
-    let a = st .args in
-    let N = st .pre .1 .0 in
-    let here = st .pre .1 .1 .0 in
-    let sort = st .pre .1 .1 .1 .0 in
-    let few = st .pre .1 .1 .1 .1 .0 in
-    let filled = st .pre .1 .1 .1 .1 .1 .0 in
-    let up = st .pre .1 .1 .1 .1 .1 .1 in
-    let low = place-low (record { width = a .w; bytes = a .s .now }) (a .r) here in
-    omega (arith, N .short, next-low (record { width = a .w; bytes = a .s .now }) (a .sub .now) (a .nxt .now) (a .ord .now) N (a .off .now) (a .r) here sort (c .before .before .before .before .before .before .before .wide .result) (c .before .before .before .before .before .before .before .wide .ensures .0) (c .before .before .before .before .before .before .if1 .left))
-
-resolve-reference-element-copy-out-wide-4 :
-    (t : ℕ) → resolve-reference-lts.Need-element-copy-out-wide-4 (
-      wide-reads.Asked,
-      wide-reads.Learnt,
-      resolve-port-below t,
-      resolve-port.Post,
-    ) (resolve-reference-at t) resolve-reference.Post
-resolve-reference-element-copy-out-wide-4 t c =
-    let st = c .before .before .before .before .before .before .before .before .before .before in
-    let a = st .args in
-    let N = st .pre .1 .0 in
-    let here = st .pre .1 .1 .0 in
-    let sort = st .pre .1 .1 .1 .0 in
-    let few = st .pre .1 .1 .1 .1 .0 in
-    let filled = st .pre .1 .1 .1 .1 .1 .0 in
-    let up = st .pre .1 .1 .1 .1 .1 .1 in
-    let low = place-low (record { width = a .w; bytes = a .s .now }) (a .r) here in
-    omega (arith, N .short, next-low (record { width = a .w; bytes = a .s .now }) (a .sub .now) (a .nxt .now) (a .ord .now) N (a .off .now) (a .r) here sort (c .before .before .before .before .before .before .before .wide .result) (c .before .before .before .before .before .before .before .wide .ensures .0) (c .before .before .before .before .before .before .if1 .left))
-
-resolve-reference-wide-requires-4 : (t : ℕ) → resolve-reference-lts.Need-wide-requires-4 (
-  wide-reads.Asked,
-  wide-reads.Learnt,
-  resolve-port-below t,
-  resolve-port.Post,
-) (resolve-reference-at t) resolve-reference.Post
-resolve-reference-wide-requires-4 t c κs = tt
-
-resolve-reference-add-t28 : (t : ℕ) → resolve-reference-lts.Need-add-t28 (
-  wide-reads.Asked,
-  wide-reads.Learnt,
-  resolve-port-below t,
-  resolve-port.Post,
-) (resolve-reference-at t) resolve-reference.Post
-resolve-reference-add-t28 t c = omega (arith, c .wide4 .ensures .1, c .before .before .before .before .wide3 .ensures .1)
-
-resolve-reference-returns-2 : (t : ℕ) → resolve-reference-lts.Need-returns-2 (
-  wide-reads.Asked,
-  wide-reads.Learnt,
-  resolve-port-below t,
-  resolve-port.Post,
-) (resolve-reference-at t) resolve-reference.Post
+resolve-reference-returns-2 : (t : ℕ) → resolve-reference-lts.Need-returns-2 (reference-claims t) (resolve-reference-at t) resolve-reference.Post
 resolve-reference-returns-2 t c =
-    let st = c .before .before .before .before .before .before .before .before .before .before .before .before in
-    let a = st .args in
-    let N = st .pre .1 .0 in
-    let here = st .pre .1 .1 .0 in
-    let sort = st .pre .1 .1 .1 .0 in
-    let few = st .pre .1 .1 .1 .1 .0 in
-    let filled = st .pre .1 .1 .1 .1 .1 .0 in
-    let up = st .pre .1 .1 .1 .1 .1 .1 in
-    let low = place-low (record { width = a .w; bytes = a .s .now }) (a .r) here in
-    ref-element (record { width = a .w; bytes = a .s .now }) (a .sub .now) (a .nxt .now) (a .ord .now) N (a .off .now) (a .r) here sort filled (a .n) (c .before .before .before .before .before .before .before .before .before .wide .result) (c .before .before .before .before .wide3 .result) (c .wide4 .result) _ up (c .before .before .before .before .before .before .before .before .before .wide .ensures .0) (c .before .before .before .before .before .before .before .before .if1 .left) (c .before .before .if2 .taken) (c .before .before .before .before .wide3 .ensures .0 ∙ ap (λ (z : ℕ). getD (a .off .now) z 0) (c .before .before .before .before .before .before .wide2 .ensures .0)) (c .before .before .before .before .wide3 .ensures .1) (c .wide4 .ensures .0) (c .wide4 .ensures .1) refl
+    let R = c .before .before .before .before .before .before .before .before .before .before .before .before .before .before .before .before .pre .1 in
+    let cell = c .before .before .before .before .before .before .before .before .before .before .before .before .cell .ensures .0 in
+    let if1-left = c .before .before .before .before .before .before .before .before .before .before .before .if1 .left in
+    let offset-of = c .before .before .before .before .before .before .before .before .before .offset-of .ensures in
+    let if2-taken = c .before .before .before .before .before .before .before .if2 .taken in
+    let cell2 = c .before .before .before .before .before .cell2 .ensures .0 in
+    let add-numbers-1 = c .before .before .before .add-numbers .ensures .1 in
+    let keep-target = c .before .before .keep-target .ensures in
+    element-answers R cell if1-left offset-of if2-taken cell2 add-numbers-1 keep-target
 
-resolve-reference-sub-resolve-port : (t : ℕ) → resolve-reference-lts.Need-sub-resolve-port (
-  wide-reads.Asked,
-  wide-reads.Learnt,
-  resolve-port-below t,
-  resolve-port.Post,
-) (resolve-reference-at t) resolve-reference.Post
-resolve-reference-sub-resolve-port t c =
-    let st = c .before .before .before .before .before .before .before .before .before .before in
-    let a = st .args in
-    let N = st .pre .1 .0 in
-    let here = st .pre .1 .1 .0 in
-    let sort = st .pre .1 .1 .1 .0 in
-    let few = st .pre .1 .1 .1 .1 .0 in
-    let filled = st .pre .1 .1 .1 .1 .1 .0 in
-    let up = st .pre .1 .1 .1 .1 .1 .1 in
-    let low = place-low (record { width = a .w; bytes = a .s .now }) (a .r) here in
-    omega (arith, up)
+resolve-reference-same-length-2 : (t : ℕ) → resolve-reference-lts.Need-same-length-2 (reference-claims t) (resolve-reference-at t) resolve-reference.Post
+resolve-reference-same-length-2 t c = resolve-reference-returns-2 t c .kept .long
 
-resolve-reference-resolve-port-requires :
-    (t : ℕ) → resolve-reference-lts.Need-resolve-port-requires (
-      wide-reads.Asked,
-      wide-reads.Learnt,
-      resolve-port-below t,
-      resolve-port.Post,
-    ) (resolve-reference-at t) resolve-reference.Post
+resolve-reference-resolve-port-requires : (t : ℕ) → resolve-reference-lts.Need-resolve-port-requires (reference-claims t) (resolve-reference-at t) resolve-reference.Post
 resolve-reference-resolve-port-requires t c κs =
-    let st = c .before .before .before .before .before .before .before .before .before .before in
-    let a = st .args in
-    let N = st .pre .1 .0 in
-    let here = st .pre .1 .1 .0 in
-    let sort = st .pre .1 .1 .1 .0 in
-    let few = st .pre .1 .1 .1 .1 .0 in
-    let filled = st .pre .1 .1 .1 .1 .1 .0 in
-    let up = st .pre .1 .1 .1 .1 .1 .1 in
-    let low = place-low (record { width = a .w; bytes = a .s .now }) (a .r) here in
-    let p = ref-port-in (record { width = a .w; bytes = a .s .now }) (a .sub .now) (a .nxt .now) (a .ord .now) N (a .off .now) (a .r) here sort filled (c .before .before .before .before .before .before .before .wide .result) (c .before .before .before .before .before .before .before .wide .ensures .0) (c .before .before .before .before .before .before .if1 .left) (c .if2 .left) in
-    (omega (arith, st .pre .0, up), (N, (p .1 .place, (or-right (isMark (record { width = a .w; bytes = a .s .now }) (c .before .before .before .before .before .before .before .wide .result)) _ (p .1 .sort), omega (arith, few)))))
+    let R = c .before .before .before .before .before .before .before .before .before .before .pre .1 in
+    let cell = c .before .before .before .before .before .before .cell .ensures .0 in
+    let if1-left = c .before .before .before .before .before .if1 .left in
+    let if2-left = c .before .if2 .left in
+    (omega (arith, c .before .before .before .before .before .before .before .before .before .before .pre .0, port-falls R cell if1-left if2-left), port-requires R cell if1-left if2-left)
 
-resolve-reference-add-t17 : (t : ℕ) → resolve-reference-lts.Need-add-t17 (
-  wide-reads.Asked,
-  wide-reads.Learnt,
-  resolve-port-below t,
-  resolve-port.Post,
-) (resolve-reference-at t) resolve-reference.Post
-resolve-reference-add-t17 t c =
-    let st = c .before .before .before .before .before .before .before .before .before .before .before in
-    let a = st .args in
-    let N = st .pre .1 .0 in
-    let here = st .pre .1 .1 .0 in
-    let sort = st .pre .1 .1 .1 .0 in
-    let few = st .pre .1 .1 .1 .1 .0 in
-    let filled = st .pre .1 .1 .1 .1 .1 .0 in
-    let up = st .pre .1 .1 .1 .1 .1 .1 in
-    let low = place-low (record { width = a .w; bytes = a .s .now }) (a .r) here in
-    omega (arith, few, up, c .resolve-port .ensures .small, c .before .before .before .wide3 .ensures .1)
+resolve-reference-same-length-3 : (t : ℕ) → resolve-reference-lts.Need-same-length-3 (reference-claims t) (resolve-reference-at t) resolve-reference.Post
+resolve-reference-same-length-3 t c = c .before .before .before .resolve-port .ensures .kept .long
 
-resolve-reference-returns-3 : (t : ℕ) → resolve-reference-lts.Need-returns-3 (
-  wide-reads.Asked,
-  wide-reads.Learnt,
-  resolve-port-below t,
-  resolve-port.Post,
-) (resolve-reference-at t) resolve-reference.Post
+resolve-reference-returns-3 : (t : ℕ) → resolve-reference-lts.Need-returns-3 (reference-claims t) (resolve-reference-at t) resolve-reference.Post
 resolve-reference-returns-3 t c =
-    let st = c .before .before .before .before .before .before .before .before .before .before .before in
-    let a = st .args in
-    let N = st .pre .1 .0 in
-    let here = st .pre .1 .1 .0 in
-    let sort = st .pre .1 .1 .1 .0 in
-    let few = st .pre .1 .1 .1 .1 .0 in
-    let filled = st .pre .1 .1 .1 .1 .1 .0 in
-    let up = st .pre .1 .1 .1 .1 .1 .1 in
-    let low = place-low (record { width = a .w; bytes = a .s .now }) (a .r) here in
-    ref-port (record { width = a .w; bytes = a .s .now }) (a .sub .now) (a .nxt .now) (a .ord .now) N (a .off .now) (a .r) here sort filled (a .n) (c .before .before .before .before .before .before .before .before .wide .result) (c .before .before .before .wide3 .result) _ _ _ _ up (c .before .before .before .before .before .before .before .before .wide .ensures .0) (c .before .before .before .before .before .before .before .if1 .left) (c .before .if2 .left) (c .before .before .before .wide3 .ensures .0 ∙ ap (λ (z : ℕ). getD (a .off .now) z 0) (c .before .before .before .before .before .wide2 .ensures .0)) (c .before .before .before .wide3 .ensures .1) (c .resolve-port .ensures) refl
+    let R = c .before .before .before .before .before .before .before .before .before .before .before .before .before .before .pre .1 in
+    let cell = c .before .before .before .before .before .before .before .before .before .before .cell .ensures .0 in
+    let if1-left = c .before .before .before .before .before .before .before .before .before .if1 .left in
+    let if2-left = c .before .before .before .before .before .if2 .left in
+    port-none R cell if1-left if2-left (c .before .before .before .resolve-port .ensures) (c .if3 .taken)
+
+resolve-reference-cell-requires-3 : (t : ℕ) → resolve-reference-lts.Need-cell-requires-3 (reference-claims t) (resolve-reference-at t) resolve-reference.Post
+resolve-reference-cell-requires-3 t c κs = omega (arith, named-asks (c .before .before .before .before .before .before .before .before .before .before .before .before .before .before .before .pre .1) (c .before .before .before .before .before .before .before .before .before .before .before .cell .ensures .0) (c .before .before .before .before .before .before .before .before .before .before .if1 .left) .0, c .before .before .before .before .resolve-port .ensures .kept .long)
+
+resolve-reference-cell-requires-4 : (t : ℕ) → resolve-reference-lts.Need-cell-requires-4 (reference-claims t) (resolve-reference-at t) resolve-reference.Post
+resolve-reference-cell-requires-4 t c κs = omega (arith, resolve-reference-cell-requires-3 t (c .before .before) κs)
+
+resolve-reference-add-numbers-requires-2 : (t : ℕ) → resolve-reference-lts.Need-add-numbers-requires-2 (reference-claims t) (resolve-reference-at t) resolve-reference.Post
+resolve-reference-add-numbers-requires-2 t c κs = (omega (arith, c .before .before .before .before .before .before .before .before .before .before .before .before .offset-of .ensures .small), omega (arith, c .before .cell4 .ensures .1))
+
+resolve-reference-keep-target-requires-2 : (t : ℕ) → resolve-reference-lts.Need-keep-target-requires-2 (reference-claims t) (resolve-reference-at t) resolve-reference.Post
+resolve-reference-keep-target-requires-2 t c κs = (omega (arith, row-of (c .before .before .before .before .before .before .before .before .before .before .before .before .before .before .before .before .before .before .before .before .pre .1), c .before .before .before .before .before .before .before .before .before .resolve-port .ensures .kept .long), (c .before .before .before .before .cell3 .ensures .1, c .add-numbers2 .ensures .0))
+
+resolve-reference-returns-4 : (t : ℕ) → resolve-reference-lts.Need-returns-4 (reference-claims t) (resolve-reference-at t) resolve-reference.Post
+resolve-reference-returns-4 t c =
+    let R = c .before .before .before .before .before .before .before .before .before .before .before .before .before .before .before .before .before .before .before .before .before .before .before .pre .1 in
+    let cell = c .before .before .before .before .before .before .before .before .before .before .before .before .before .before .before .before .before .before .before .cell .ensures .0 in
+    let if1-left = c .before .before .before .before .before .before .before .before .before .before .before .before .before .before .before .before .before .before .if1 .left in
+    let if2-left = c .before .before .before .before .before .before .before .before .before .before .before .before .before .before .if2 .left in
+    let resolve-port = c .before .before .before .before .before .before .before .before .before .before .before .before .resolve-port .ensures in
+    let if3-left = c .before .before .before .before .before .before .before .before .before .if3 .left in
+    let offset-of = c .before .before .before .before .before .before .before .before .before .before .before .before .before .before .before .before .offset-of .ensures in
+    let cell3 = c .before .before .before .before .before .before .before .cell3 .ensures .0 in
+    let cell4 = c .before .before .before .before .before .cell4 .ensures .0 in
+    let add-numbers2-1 = c .before .before .before .add-numbers2 .ensures .1 in
+    let keep-target2 = c .before .before .keep-target2 .ensures in
+    port-answers R cell if1-left if2-left resolve-port if3-left offset-of cell3 cell4 add-numbers2-1 keep-target2
+
+resolve-reference-same-length-4 : (t : ℕ) → resolve-reference-lts.Need-same-length-4 (reference-claims t) (resolve-reference-at t) resolve-reference.Post
+resolve-reference-same-length-4 t c = resolve-reference-returns-4 t c .kept .long
 
 pub +resolve-port+resolve-reference-spec : {M : Type 1} → statement M
 +resolve-port+resolve-reference-spec =
-    close μ-resolve-port μ-resolve-reference (λ t. resolve-port-lts.spec (
-      wide-reads.Asked,
-      wide-reads.Learnt,
-      resolve-reference-below t,
-      resolve-reference.Post,
-    )
+    close μ-resolve-port μ-resolve-reference (λ t. resolve-port-lts.spec (port-claims t)
     (resolve-port-at t)
     resolve-port.Post
+    (resolve-port-cell-requires t)
+    (resolve-port-same-length t)
     (resolve-port-returns t)
-    (resolve-port-mul-wide t)
-    (resolve-port-element-copy-out-wide t)
-    (resolve-port-wide-requires t)
     (resolve-port-resolve-reference-requires t)
-    (resolve-port-returns-2 t)
-    (resolve-port-mul-wide-2 t)
-    (resolve-port-element-copy-out-wide-2 t)
-    (resolve-port-wide-requires-2 t)
-    (resolve-port-returns-3 t)
-    (resolve-port-mul-wide-3 t)
-    (resolve-port-element-copy-out-wide-3 t)
-    (resolve-port-wide-requires-3 t)
-    (resolve-port-returns-4 t))
-    λ t. resolve-reference-lts.spec
-    (wide-reads.Asked, wide-reads.Learnt, resolve-port-below t, resolve-port.Post)
+    (resolve-port-same-length-2 t)
+    (resolve-port-returns-2 t))
+    λ t. resolve-reference-lts.spec (reference-claims t)
     (resolve-reference-at t)
     resolve-reference.Post
-    (resolve-reference-mul-wide t)
-    (resolve-reference-element-copy-out-wide t)
-    (resolve-reference-wide-requires t)
+    (resolve-reference-cell-requires t)
+    (resolve-reference-same-length t)
     (resolve-reference-returns t)
-    (resolve-reference-mul-wide-2 t)
-    (resolve-reference-element-copy-out-wide-2 t)
-    (resolve-reference-wide-requires-2 t)
-    (resolve-reference-mul-wide-3 t)
-    (resolve-reference-element-copy-out-wide-3 t)
-    (resolve-reference-wide-requires-3 t)
+    (resolve-reference-offset-of-requires t)
     (resolve-reference-shared-slice-read-if2 t)
-    (resolve-reference-mul-wide-4 t)
-    (resolve-reference-element-copy-out-wide-4 t)
-    (resolve-reference-wide-requires-4 t)
-    (resolve-reference-add-t28 t)
+    (resolve-reference-cell-requires-2 t)
+    (resolve-reference-add-numbers-requires t)
+    (resolve-reference-keep-target-requires t)
+    (resolve-reference-same-length-2 t)
     (resolve-reference-returns-2 t)
-    (resolve-reference-sub-resolve-port t)
     (resolve-reference-resolve-port-requires t)
-    (resolve-reference-add-t17 t)
+    (resolve-reference-same-length-3 t)
     (resolve-reference-returns-3 t)
+    (resolve-reference-cell-requires-3 t)
+    (resolve-reference-cell-requires-4 t)
+    (resolve-reference-add-numbers-requires-2 t)
+    (resolve-reference-keep-target-requires-2 t)
+    (resolve-reference-same-length-4 t)
+    (resolve-reference-returns-4 t)

@@ -1,18 +1,78 @@
--- `tree::plant` meets its contract: a walk from main that goes through leaves the tables, and one that does not is row 7.
+-- `tree::plant` meets its contract: a walk from main that goes through, and the instances threaded; or row 7.
 -- Assumes nothing.
 use native.Mathlib.Omega.{arith}
-use Rattle.recipe.specs.Definitions.{main}
-use Rattle.tree.proofs.Trees.{planted}
+use Rattle.tree.proofs.FromMain.{main-heavy, main-planted, main-requires, main-room, main-threads, walk-fails, walk-shadowed}
+use borrow.Author.Needs.{needs}
 use Rattle.tree.proofs.plant.Statement.{statement}
 use Rattle.tree.proofs.plant.Tie as tie
 
-walk-requires : tie.Need-walk-requires
-unfolding main
-walk-requires c κs = let st = c .before .before .before in (st .pre .0, (st .pre .1 .0, (omega arith, (omega arith, (omega arith, (omega arith, st .pre .1 .1))))))
+cell-requires : tie.Need-cell-requires
+cell-requires c κs = main-room (c .before .before .before .before .pre .0) (c .before .before .before .before .pre .1 .0)
 
 returns : tie.Need-returns
-unfolding main
-returns c = let a = c .before .before .before .before .args in planted (record { width = a .w; bytes = a .s .now }) _ _ _ _ _ _ _ (c .walk .ensures) (c .before .before .before .before .pre .1 .1)
+returns c = main-heavy (c .before .before .before .before .before .before .before .pre .0) (c .before .before .before .before .before .before .before .pre .1 .0) (c .before .before .cell .ensures .0) (c .before .if1 .taken) (c .plant-answer .ensures .0)
+
+put-row-requires : tie.Need-put-row-requires
+put-row-requires c κs = (omega (arith, c .before .before .before .before .before .before .before .pre .1 .1), (omega arith, (omega arith, (omega arith, (omega arith, (omega arith, omega arith))))))
+
+walk-requires : tie.Need-walk-requires
+walk-requires c κs =
+    let R0 = c .before .before .before .before .before .before .before .before .before .before .before .before .pre .0 in
+    let R10 = c .before .before .before .before .before .before .before .before .before .before .before .before .pre .1 .0 in
+    let inst = c .before .before .before .before .before .before .before .before .before .before .before .before .args .inst .now in
+    let R11 = c .before .before .before .before .before .before .before .before .before .before .before .before .pre .1 .1 in
+    let put-row = c .before .before .before .before .put-row .ensures in
+    let cell = c .before .before .before .before .before .before .before .cell .ensures .0 in
+    let if1-left = c .before .before .before .before .before .before .if1 .left in
+    main-requires R0 R10 inst R11 put-row cell if1-left
+
+returns-2 : tie.Need-returns-2
+returns-2 c =
+    let R0 = c .before .before .before .before .before .before .before .before .before .before .before .before .before .before .before .before .before .before .before .pre .0 in
+    let R10 = c .before .before .before .before .before .before .before .before .before .before .before .before .before .before .before .before .before .before .before .pre .1 .0 in
+    let inst = c .before .before .before .before .before .before .before .before .before .before .before .before .before .before .before .before .before .before .before .args .inst .now in
+    let R11 = c .before .before .before .before .before .before .before .before .before .before .before .before .before .before .before .before .before .before .before .pre .1 .1 in
+    let put-row = c .before .before .before .before .before .before .before .before .before .before .before .put-row .ensures in
+    let walk = c .before .before .before .before .before .before .walk .ensures in
+    let if2-taken = c .before .if2 .taken in
+    walk-fails R0 R10 inst R11 put-row walk if2-taken (c .plant-answer2 .ensures .0)
+
+clear-cells-requires : tie.Need-clear-cells-requires
+clear-cells-requires c κs =
+    let R0 = c .before .before .before .before .before .before .before .before .before .before .before .before .before .before .before .before .before .before .before .pre .0 in
+    let R10 = c .before .before .before .before .before .before .before .before .before .before .before .before .before .before .before .before .before .before .before .pre .1 .0 in
+    let inst = c .before .before .before .before .before .before .before .before .before .before .before .before .before .before .before .before .before .before .before .args .inst .now in
+    let R11 = c .before .before .before .before .before .before .before .before .before .before .before .before .before .before .before .before .before .before .before .pre .1 .1 in
+    let put-row = c .before .before .before .before .before .before .before .before .before .before .before .put-row .ensures in
+    let walk = c .before .before .before .before .before .before .walk .ensures in
+    (walk-shadowed R0 R10 inst R11 put-row walk, omega arith)
+
+thread-instances-requires : tie.Need-thread-instances-requires
+thread-instances-requires c κs =
+    let R0 = c .before .before .before .before .before .before .before .before .before .before .before .before .before .before .before .before .before .before .before .before .before .before .before .before .pre .0 in
+    let R10 = c .before .before .before .before .before .before .before .before .before .before .before .before .before .before .before .before .before .before .before .before .before .before .before .before .pre .1 .0 in
+    let inst = c .before .before .before .before .before .before .before .before .before .before .before .before .before .before .before .before .before .before .before .before .before .before .before .before .args .inst .now in
+    let R11 = c .before .before .before .before .before .before .before .before .before .before .before .before .before .before .before .before .before .before .before .before .before .before .before .before .pre .1 .1 in
+    let put-row = c .before .before .before .before .before .before .before .before .before .before .before .before .before .before .before .before .put-row .ensures in
+    let walk = c .before .before .before .before .before .before .before .before .before .before .before .walk .ensures in
+    let if2-left = c .before .before .before .before .before .before .if2 .left in
+    let clear-cells = c .before .before .before .before .clear-cells .ensures in
+    main-threads R0 R10 inst R11 put-row walk if2-left clear-cells
+
+returns-3 : tie.Need-returns-3
+returns-3 c =
+    let R0 = c .before .before .before .before .before .before .before .before .before .before .before .before .before .before .before .before .before .before .before .before .before .before .before .before .before .before .before .before .before .before .pre .0 in
+    let R10 = c .before .before .before .before .before .before .before .before .before .before .before .before .before .before .before .before .before .before .before .before .before .before .before .before .before .before .before .before .before .before .pre .1 .0 in
+    let inst = c .before .before .before .before .before .before .before .before .before .before .before .before .before .before .before .before .before .before .before .before .before .before .before .before .before .before .before .before .before .before .args .inst .now in
+    let R11 = c .before .before .before .before .before .before .before .before .before .before .before .before .before .before .before .before .before .before .before .before .before .before .before .before .before .before .before .before .before .before .pre .1 .1 in
+    let put-row = c .before .before .before .before .before .before .before .before .before .before .before .before .before .before .before .before .before .before .before .before .before .before .put-row .ensures in
+    let walk = c .before .before .before .before .before .before .before .before .before .before .before .before .before .before .before .before .before .walk .ensures in
+    let if2-left = c .before .before .before .before .before .before .before .before .before .before .before .before .if2 .left in
+    let clear-cells = c .before .before .before .before .before .before .before .before .before .before .clear-cells .ensures in
+    let thread-instances = c .before .before .before .before .before .thread-instances .ensures in
+    main-planted R0 R10 inst R11 put-row walk if2-left clear-cells thread-instances (c .plant-answer3 .ensures .0) (c .plant-answer3 .ensures .1 .0) (c .plant-answer3 .ensures .1 .1)
 
 pub plant-spec : {M : Type 1} → statement M
-plant-spec = tie.close (tie.spec walk-requires returns)
+plant-spec = tie.close (tie.spec cell-requires (search needs) (search needs) returns put-row-requires walk-requires
+    (search needs) (search needs) (search needs) returns-2 clear-cells-requires thread-instances-requires (search needs)
+    (search needs) (search needs) returns-3)

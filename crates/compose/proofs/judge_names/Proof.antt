@@ -1,0 +1,37 @@
+-- `compose::judge_names` meets its contract: the records are numbered; rows 4 and 5 refuse, or the heights are settled, or row 6 refuses.
+-- Assumes nothing.
+use mathlib.Core.Path.{_∙_, refl, sym}
+use mathlib.Core.List.{[], _∷_}
+use Rattle.names.specs.Judging.{areRefusals, row}
+use Rattle.names.proofs.Judging.{hand-first, hand-second, handed-none, no-rows, not-zero, row-hit, row-miss, row-none}
+use Rattle.recipe.specs.Reading.{fault₆, formRows}
+use Rattle.links.specs.Links.{declaredRows}
+use Rattle.compose.proofs.Judging.{shadowed-is}
+use borrow.Author.Needs.{needs}
+use Rattle.compose.proofs.judge_names.Statement.{statement}
+use Rattle.compose.proofs.judge_names.Tie as tie
+
+number-records-requires : tie.Need-number-records-requires
+number-records-requires c κs = shadowed-is (record { width = c .before .before .before .args .w; bytes = c .before .before .before .args .s .now }) _ (c .before .before .before .pre)
+
+resolve-names-requires : tie.Need-resolve-names-requires
+resolve-names-requires c κs = (c .before .before .before .number-records .ensures .0, row-none 3 (formRows (record { width = c .before .before .before .before .before .before .before .args .w; bytes = c .before .before .before .before .before .before .before .args .s .now })) (c .before .before .before .before .before .before .before .pre .formed))
+
+returns : tie.Need-returns
+returns c = (hand-first (declaredRows (record { width = c .before .before .before .before .before .before .before .before .before .before .before .before .args .w; bytes = c .before .before .before .before .before .before .before .before .before .before .before .before .args .s .now })) (row 6 (fault₆ (record { width = c .before .before .before .before .before .before .before .before .before .before .before .before .args .w; bytes = c .before .before .before .before .before .before .before .before .before .before .before .before .args .s .now })) ∷ []) (c .before .before .before .before .resolve-names .ensures .0) (c .if1 .taken), λ z. absurd (c .if1 .taken z))
+
+find-heights-requires : tie.Need-find-heights-requires
+find-heights-requires c κs = c .before .before .before .before .before .resolve-names .ensures .1 .0 (c .before .if1 .left)
+
+returns-2 : tie.Need-returns-2
+unfolding areRefusals
+returns-2 c = (hand-second (declaredRows (record { width = c .before .before .before .before .before .before .before .before .before .before .before .before .before .before .before .before .before .before .before .before .args .w; bytes = c .before .before .before .before .before .before .before .before .before .before .before .before .before .before .before .before .before .before .before .before .args .s .now })) (row 6 (fault₆ (record { width = c .before .before .before .before .before .before .before .before .before .before .before .before .before .before .before .before .before .before .before .before .args .w; bytes = c .before .before .before .before .before .before .before .before .before .before .before .before .before .before .before .before .before .before .before .before .args .s .now })) ∷ []) (handed-none (declaredRows (record { width = c .before .before .before .before .before .before .before .before .before .before .before .before .before .before .before .before .before .before .before .before .args .w; bytes = c .before .before .before .before .before .before .before .before .before .before .before .before .before .before .before .before .before .before .before .before .args .s .now })) refl (c .before .before .before .before .before .before .before .before .before .before .before .before .resolve-names .ensures .0) (c .before .before .before .before .before .before .before .before .if1 .left)) (c .refuse .ensures ∙ row-hit 6 _ _ (sym (c .before .before .p .given .1) ∙ c .before .before .before .before .before .before .find-heights .ensures .0)), λ z. not-zero _ 5 _ (c .refuse .ensures) z)
+
+returns-3 : tie.Need-returns-3
+unfolding areRefusals
+returns-3 c = (hand-second (declaredRows (record { width = c .before .before .before .before .before .before .before .before .before .before .before .before .before .before .before .before .before .before .before .args .w; bytes = c .before .before .before .before .before .before .before .before .before .before .before .before .before .before .before .before .before .before .before .args .s .now })) (row 6 (fault₆ (record { width = c .before .before .before .before .before .before .before .before .before .before .before .before .before .before .before .before .before .before .before .args .w; bytes = c .before .before .before .before .before .before .before .before .before .before .before .before .before .before .before .before .before .before .before .args .s .now })) ∷ []) (handed-none (declaredRows (record { width = c .before .before .before .before .before .before .before .before .before .before .before .before .before .before .before .before .before .before .before .args .w; bytes = c .before .before .before .before .before .before .before .before .before .before .before .before .before .before .before .before .before .before .before .args .s .now })) refl (c .before .before .before .before .before .before .before .before .before .before .before .resolve-names .ensures .0) (c .before .before .before .before .before .before .before .if1 .left)) (c .refuse2 .ensures ∙ (no-rows ∙ row-miss 6 _ _ (sym (c .before .enum-told .given .1) ∙ c .before .before .before .before .before .find-heights .ensures .0))), λ z. c .before .before .before .before .before .find-heights .ensures .1 (c .before .enum-told .given .1))
+
+pub judge-names-spec : {M : Type 1} → statement M
+judge-names-spec = tie.close (tie.spec number-records-requires resolve-names-requires (search needs) returns
+    find-heights-requires (search needs) (search needs) (search needs) returns-2 (search needs) (search needs)
+    (search needs) returns-3)

@@ -1,0 +1,3 @@
+-- What composing promises: the order of judging, and the rooms that it fills.
+pub mod Rows
+pub mod Rooms

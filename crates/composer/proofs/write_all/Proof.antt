@@ -1,0 +1,18 @@
+-- `composer::write_all` meets its contract: the prefixes, and then the records.
+-- Assumes nothing.
+use Prim.Native.Nat.{ℕ}
+use lib.ListN.{length-replicate}
+use Rattle.composer.proofs.Handed.{instances-room, prefix-room, writer}
+use borrow.Author.Needs.{needs}
+use Rattle.composer.proofs.write_all.Statement.{statement}
+use Rattle.composer.proofs.write_all.Tie as tie
+
+fill-prefixes-requires : tie.Need-fill-prefixes-requires
+fill-prefixes-requires c κs = ((c .before .before .before .before .before .before .before .pre .0) .targeted .planted, (prefix-room (c .before .before .before .before .before .before .before .pre .0) (length-replicate {A = ℕ} 16896 0), instances-room (c .before .before .before .before .before .before .before .pre .0) (length-replicate {A = ℕ} 64 0)))
+
+write-table-requires : tie.Need-write-table-requires
+write-table-requires c κs = (writer (c .before .before .before .before .before .before .before .before .before .before .before .before .before .pre .0) _ _ (c .before .before .before .before .before .fill-prefixes .ensures), c .before .before .before .before .before .before .before .before .before .before .before .before .before .pre .1)
+
+pub write-all-spec : {M : Type 1} → statement M
+write-all-spec = tie.close (tie.spec (search needs) (search needs) fill-prefixes-requires (search needs) (search needs)
+    write-table-requires (search needs) (λ c. search needs))

@@ -1,0 +1,33 @@
+-- `links::find_record` meets its contract: from what the index finds.
+-- Assumes nothing.
+use Rattle.links.proofs.Repeats.{indexes-at, cell-first}
+use Rattle.recipe.specs.Records.{Recipe}
+use mathlib.Core.Path.{sym, _∙_}
+use native.Mathlib.Omega.{arith}
+use Rattle.links.proofs.Places.{place-room}
+use Rattle.links.proofs.Lookups.{sought-none, sought-low, sought-in, sought-some, sought-other}
+use borrow.Author.Needs.{needs}
+use Rattle.links.proofs.find_record.Statement.{statement}
+use Rattle.links.proofs.find_record.Tie as tie
+
+find-requires : tie.Need-find-requires
+find-requires c κs = indexes-at _ (c .before .before .before .before .before .before .before .before .pre .0 .indexed)
+
+returns : tie.Need-returns
+returns c = let pre = c .before .before .before .before .before .before .before .before .before .before .before .pre in sought-none (pre .0) (pre .1) (c .before .before .before .before .tag .ensures .0) (c .before .before .before .before .before .field .ensures) (c .before .before .before .key .ensures) (sym (c .enum-told .given .1) ∙ c .before .before .find .ensures)
+
+cell-requires : tie.Need-cell-requires
+cell-requires c κs = let pre = c .before .before .before .before .before .before .before .before .before .before .before .before .pre in let e = sym (c .before .i .given .1) ∙ c .before .before .before .find .ensures in omega (arith, sought-low (pre .0) (pre .1) (c .before .before .before .before .before .tag .ensures .0) (c .before .before .before .before .before .before .field .ensures) (c .before .before .before .before .key .ensures) e)
+
+shared-slice-read-if1 : tie.Need-shared-slice-read-if1
+shared-slice-read-if1 c = let pre = c .before .before .before .before .before .before .before .before .before .before .before .before .before .before .pre in let e = sym (c .before .before .before .i .given .1) ∙ c .before .before .before .before .before .find .ensures in let a = c .before .before .before .before .before .before .before .before .before .before .before .before .before .before .args in let R : Recipe = record { width = a .w; bytes = a .s .now } in omega (arith, cell-first (c .before .before .before .before .before .before .before .before .before .before .before .before .before .before .args .at .now) (c .before .before .before .i .given .0 .0) (c .before .cell .ensures .0), place-room R _ (sought-in (pre .0) (pre .1) (c .before .before .before .before .before .before .before .tag .ensures .0) (c .before .before .before .before .before .before .before .before .field .ensures) (c .before .before .before .before .before .before .key .ensures) e))
+
+returns-2 : tie.Need-returns-2
+returns-2 c = let pre = c .before .before .before .before .before .before .before .before .before .before .before .before .before .before .before .before .pre in let e = sym (c .before .before .before .before .before .i .given .1) ∙ c .before .before .before .before .before .before .before .find .ensures in sought-some (pre .0) (pre .1) (c .before .before .before .before .before .before .before .before .before .tag .ensures .0) (c .before .before .before .before .before .before .before .before .before .before .field .ensures) (c .before .before .before .before .before .before .before .before .key .ensures) e (cell-first (c .before .before .before .before .before .before .before .before .before .before .before .before .before .before .before .before .args .at .now) (c .before .before .before .before .before .i .given .0 .0) (c .before .before .before .cell .ensures .0)) (c .if1 .taken)
+
+returns-3 : tie.Need-returns-3
+returns-3 c = let pre = c .before .before .before .before .before .before .before .before .before .before .before .before .before .before .before .before .pre in let e = sym (c .before .before .before .before .before .i .given .1) ∙ c .before .before .before .before .before .before .before .find .ensures in sought-other (pre .0) (pre .1) (c .before .before .before .before .before .before .before .before .before .tag .ensures .0) (c .before .before .before .before .before .before .before .before .before .before .field .ensures) (c .before .before .before .before .before .before .before .before .key .ensures) e (cell-first (c .before .before .before .before .before .before .before .before .before .before .before .before .before .before .before .before .args .at .now) (c .before .before .before .before .before .i .given .0 .0) (c .before .before .before .cell .ensures .0)) (c .if1 .left)
+
+pub find-record-spec : {M : Type 1} → statement M
+find-record-spec = tie.close (tie.spec (search needs) (search needs) (search needs) find-requires (search needs)
+    (search needs) returns cell-requires shared-slice-read-if1 (search needs) returns-2 returns-3)

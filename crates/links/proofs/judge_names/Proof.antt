@@ -1,0 +1,28 @@
+-- `links::judge_names` meets its contract: row by row.
+-- Assumes nothing.
+use mathlib.Core.Path.{sym, _∙_}
+use Rattle.names.proofs.Scans.{found-nothing}
+use Rattle.names.proofs.Judging.{no-rows, row-hit, row-miss, not-zero}
+use borrow.Author.Needs.{needs}
+use Rattle.links.proofs.judge_names.Statement.{statement}
+use Rattle.links.proofs.judge_names.Tie as tie
+
+returns : tie.Need-returns
+returns c = (c .refuse .ensures ∙ row-hit 4 _ _ (sym (c .before .before .p .given .1) ∙ c .before .before .before .before .first-repeated .ensures), λ z. not-zero _ 3 _ (c .refuse .ensures) z)
+
+link-records-requires : tie.Need-link-records-requires
+link-records-requires c κs = (record { indexed = c .before .before .before .before .before .before .before .before .before .before .pre .0; once = found-nothing (sym (c .before .enum-told .given .1) ∙ c .before .before .before .first-repeated .ensures) }, c .before .before .before .before .before .before .before .before .before .before .pre .1)
+
+returns-2 : tie.Need-returns-2
+returns-2 c = (c .refuse2 .ensures ∙ (row-hit 5 _ _ (sym (c .before .before .p2 .given .1) ∙ c .before .before .before .before .before .before .link-records .ensures .0) ∙ row-miss 4 _ _ (sym (c .before .before .before .before .before .before .before .before .enum-told .given .1) ∙ c .before .before .before .before .before .before .before .before .before .before .first-repeated .ensures)), λ z. not-zero _ 4 _ (c .refuse2 .ensures) z)
+
+name-targets-requires : tie.Need-name-targets-requires
+name-targets-requires c κs = (record { indexed = c .before .before .before .before .before .before .before .before .before .before .before .before .before .before .before .before .pre .0; once = found-nothing (sym (c .before .before .before .before .before .before .before .enum-told .given .1) ∙ c .before .before .before .before .before .before .before .before .before .first-repeated .ensures) }, c .before .before .before .before .before .link-records .ensures .1 (c .before .enum-told2 .given .1))
+
+returns-3 : tie.Need-returns-3
+returns-3 c = (c .refuse3 .ensures ∙ (no-rows ∙ (row-miss 5 _ _ (sym (c .before .before .before .before .before .enum-told2 .given .1) ∙ c .before .before .before .before .before .before .before .before .before .link-records .ensures .0) ∙ row-miss 4 _ _ (sym (c .before .before .before .before .before .before .before .before .before .before .before .enum-told .given .1) ∙ c .before .before .before .before .before .before .before .before .before .before .before .before .before .first-repeated .ensures))), λ z. c .before .before .before .name-targets .ensures)
+
+pub judge-names-spec : {M : Type 1} → statement M
+judge-names-spec = tie.close (tie.spec (λ c κs. search needs) (search needs) (search needs) returns (search needs)
+    link-records-requires (search needs) (search needs) (search needs) returns-2 (search needs) name-targets-requires
+    (search needs) (search needs) returns-3)

@@ -1,0 +1,46 @@
+-- `links::link_record` meets its contract: by what the record reads as.
+-- Assumes nothing.
+use Rattle.recipe.specs.Records.{Recipe, markKind}
+use Rattle.links.proofs.Fields.{read, not-refused, read-right}
+use Rattle.links.proofs.Linking.{deletion-unowned, model-links}
+use mathlib.Core.Path.{sym, ap, _∙_}
+use Rattle.recipe.specs.declared.Read.the-variants.{As}
+use Rattle.recipe.proofs.Bodies.{mark-kind}
+use Rattle.recipe.proofs.Rows.{mark-submodel}
+use borrow.Author.Needs.{needs}
+use Rattle.links.proofs.link_record.Statement.{statement}
+use Rattle.links.proofs.link_record.Tie as tie
+
+read-record-requires : tie.Need-read-record-requires
+read-record-requires c κs = let x = c .before .before .before .before .before .pre in let a = c .before .before .before .before .before .args in let R : Recipe = record { width = a .w; bytes = a .s .now } in let p = a .h .place in let i = x .placed in read R p i
+
+returns : tie.Need-returns
+returns c = let x = c .before .before .before .before .before .before .before .before .pre in let a = c .before .before .before .before .before .before .before .before .args in let R : Recipe = record { width = a .w; bytes = a .s .now } in let p = a .h .place in let i = x .placed in not-refused R p i (x .named .indexed .formed) (sym (c .enum-told .given .1) ∙ c .before .before .read-record .ensures)
+
+link-element-requires : tie.Need-link-element-requires
+link-element-requires c κs = let x = c .before .before .before .before .before .before .before .before .before .before .before .before .pre in let a = c .before .before .before .before .before .before .before .before .before .before .before .before .args in let R : Recipe = record { width = a .w; bytes = a .s .now } in let p = a .h .place in let i = x .placed in let e = sym (c .before .before .before .before .r .given .1 ∙ ap As (c .before .r2 .given .1)) ∙ c .before .before .before .before .before .before .read-record .ensures in (x, read-right R p i e)
+
+link-port-requires : tie.Need-link-port-requires
+link-port-requires c κs = let x = c .before .before .before .before .before .before .before .before .before .before .before .before .pre in let a = c .before .before .before .before .before .before .before .before .before .before .before .before .args in let R : Recipe = record { width = a .w; bytes = a .s .now } in let p = a .h .place in let i = x .placed in let e = sym (c .before .before .before .before .r .given .1 ∙ ap As (c .before .r3 .given .1)) ∙ c .before .before .before .before .before .before .read-record .ensures in (x, read-right R p i e)
+
+link-submodel-requires : tie.Need-link-submodel-requires
+link-submodel-requires c κs = let x = c .before .before .before .before .before .before .before .before .before .before .before .before .pre in let a = c .before .before .before .before .before .before .before .before .before .before .before .before .args in let R : Recipe = record { width = a .w; bytes = a .s .now } in let p = a .h .place in let i = x .placed in let e = sym (c .before .before .before .before .r .given .1 ∙ ap As (c .before .r4 .given .1)) ∙ c .before .before .before .before .before .before .read-record .ensures in (x, read-right R p i e)
+
+link-pointer-requires : tie.Need-link-pointer-requires
+link-pointer-requires c κs = let x = c .before .before .before .before .before .before .before .before .before .before .before .before .pre in let a = c .before .before .before .before .before .before .before .before .before .before .before .before .args in let R : Recipe = record { width = a .w; bytes = a .s .now } in let p = a .h .place in let i = x .placed in let e = sym (c .before .before .before .before .r .given .1 ∙ ap As (c .before .r5 .given .1)) ∙ c .before .before .before .before .before .before .read-record .ensures in let k = read-right R p i e in (x, deletion-unowned R p (k .0) (k .1) (mark-submodel R (x .named .indexed .formed) p i (mark-kind R p ∙ ap markKind (k .0))))
+
+link-owned-requires : tie.Need-link-owned-requires
+link-owned-requires c κs = let x = c .before .before .before .before .before .before .before .before .before .before .before .before .pre in let a = c .before .before .before .before .before .before .before .before .before .before .before .before .args in let R : Recipe = record { width = a .w; bytes = a .s .now } in let p = a .h .place in let i = x .placed in let e = sym (c .before .before .before .before .r .given .1 ∙ ap As (c .before .r6 .given .1)) ∙ c .before .before .before .before .before .before .read-record .ensures in (x, read-right R p i e)
+
+link-owned-requires-2 : tie.Need-link-owned-requires-2
+link-owned-requires-2 c κs = let x = c .before .before .before .before .before .before .before .before .before .before .before .before .pre in let a = c .before .before .before .before .before .before .before .before .before .before .before .before .args in let R : Recipe = record { width = a .w; bytes = a .s .now } in let p = a .h .place in let i = x .placed in let e = sym (c .before .before .before .before .r .given .1 ∙ ap As (c .before .r7 .given .1)) ∙ c .before .before .before .before .before .before .read-record .ensures in (x, read-right R p i e)
+
+returns-2 : tie.Need-returns-2
+returns-2 c = let x = c .before .before .before .before .before .before .before .before .before .before .before .pre in let a = c .before .before .before .before .before .before .before .before .before .before .before .args in let R : Recipe = record { width = a .w; bytes = a .s .now } in let p = a .h .place in let i = x .placed in let e = sym (c .before .before .before .r .given .1 ∙ ap As (c .enum-told2 .given .1)) ∙ c .before .before .before .before .before .read-record .ensures in model-links R p (read-right R p i e)
+
+pub link-record-spec : {M : Type 1} → statement M
+link-record-spec = tie.close (tie.spec read-record-requires (search needs) (search needs) returns (search needs)
+    (search needs) link-element-requires (search needs) link-port-requires (search needs) link-submodel-requires
+    (search needs) link-pointer-requires (search needs) link-owned-requires (search needs) link-owned-requires-2
+    returns-2 (λ c. search needs) (λ c. search needs) (λ c. search needs) (λ c. search needs) (λ c. search needs)
+    (λ c. search needs))

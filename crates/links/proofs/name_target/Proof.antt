@@ -1,0 +1,62 @@
+-- `links::name_target` meets its contract: no port or mark, a blank submodel, or what the way and the target lead to.
+-- Assumes nothing.
+use Rattle.recipe.specs.Records.{Recipe}
+use mathlib.Core.Path.{sym, _∙_}
+use native.Mathlib.Omega.{arith}
+use borrow.Author.Tests.{not-true, not-false}
+use Rattle.links.proofs.Places.{place-room}
+use Rattle.links.proofs.Linking.{pointer-byte}
+use Rattle.links.proofs.Targets.{not-pointing, pointing-none, cells-room, target-kept, target-field, way-low, submodel-room, target-sought, target-written}
+use borrow.Author.Needs.{needs}
+use Rattle.links.proofs.name_target.Statement.{statement}
+use Rattle.links.proofs.name_target.Tie as tie
+
+shared-slice-read-k : tie.Need-shared-slice-read-k
+shared-slice-read-k c = let pre = c .before .before .before .before .before .before .before .pre in let a = c .before .before .before .before .before .before .before .args in let R : Recipe = record { width = a .w; bytes = a .s .now } in let g = pre .1 .0 in let p = a .p in let i = pre .1 .1 in omega (arith, place-room R p i)
+
+returns : tie.Need-returns
+returns c = let pre = c .before .before .before .before .before .before .before .before .before .pre in let a = c .before .before .before .before .before .before .before .before .before .args in let R : Recipe = record { width = a .w; bytes = a .s .now } in let g = pre .1 .0 in let p = a .p in let i = pre .1 .1 in target-kept g p i _ (not-pointing R p (pointer-byte R p ∙ (sym (c .before .is-pointer .ensures) ∙ not-true _ (c .if1 .taken))))
+
+cell-requires : tie.Need-cell-requires
+cell-requires c κs = let pre = c .before .before .before .before .before .before .before .before .before .before .pre in let a = c .before .before .before .before .before .before .before .before .before .before .args in let R : Recipe = record { width = a .w; bytes = a .s .now } in let g = pre .1 .0 in let p = a .p in let i = pre .1 .1 in omega (arith, cells-room g p i)
+
+returns-2 : tie.Need-returns-2
+returns-2 c = let pre = c .before .before .before .before .before .before .before .before .before .before .before .before .pre in let a = c .before .before .before .before .before .before .before .before .before .before .before .before .args in let R : Recipe = record { width = a .w; bytes = a .s .now } in let g = pre .1 .0 in let p = a .p in let i = pre .1 .1 in let h = pointer-byte R p ∙ (sym (c .before .before .before .before .is-pointer .ensures) ∙ not-false _ (c .before .before .before .if1 .left)) in target-kept g p i _ (pointing-none g p i h (sym (c .before .cell .ensures .0) ∙ c .if2 .taken))
+
+add-way : tie.Need-add-way
+add-way c = let pre = c .before .before .before .before .before .before .before .before .before .before .before .before .pre in let a = c .before .before .before .before .before .before .before .before .before .before .before .before .args in let R : Recipe = record { width = a .w; bytes = a .s .now } in let g = pre .1 .0 in let p = a .p in let i = pre .1 .1 in omega (arith, place-room R p i)
+
+submodel-offset-requires : tie.Need-submodel-offset-requires
+submodel-offset-requires c κs = sym (c .before .before .before .before .is-pointer .ensures) ∙ not-false _ (c .before .before .before .if1 .left)
+
+add-way-2 : tie.Need-add-way-2
+add-way-2 c = let pre = c .before .before .before .before .before .before .before .before .before .before .before .before .before .pre in let a = c .before .before .before .before .before .before .before .before .before .before .before .before .before .args in let R : Recipe = record { width = a .w; bytes = a .s .now } in let g = pre .1 .0 in let p = a .p in let i = pre .1 .1 in let h = pointer-byte R p ∙ (sym (c .before .before .before .before .before .is-pointer .ensures) ∙ not-false _ (c .before .before .before .before .if1 .left)) in let room = target-field g p i (pre .0 .indexed .formed) h (c .before .before .cell .ensures .0) (c .before .if2 .left) (c .submodel-offset .ensures) .room in omega arith
+
+add-way-3 : tie.Need-add-way-3
+add-way-3 c = let pre = c .before .before .before .before .before .before .before .before .before .before .before .before .before .pre in let a = c .before .before .before .before .before .before .before .before .before .before .before .before .before .args in let R : Recipe = record { width = a .w; bytes = a .s .now } in let g = pre .1 .0 in let p = a .p in let i = pre .1 .1 in let h = pointer-byte R p ∙ (sym (c .before .before .before .before .before .is-pointer .ensures) ∙ not-false _ (c .before .before .before .before .if1 .left)) in let room = target-field g p i (pre .0 .indexed .formed) h (c .before .before .cell .ensures .0) (c .before .if2 .left) (c .submodel-offset .ensures) .room in omega arith
+
+shared-slice-read-t15 : tie.Need-shared-slice-read-t15
+shared-slice-read-t15 c = let pre = c .before .before .before .before .before .before .before .before .before .before .before .before .before .before .pre in let a = c .before .before .before .before .before .before .before .before .before .before .before .before .before .before .args in let R : Recipe = record { width = a .w; bytes = a .s .now } in let g = pre .1 .0 in let p = a .p in let i = pre .1 .1 in let h = pointer-byte R p ∙ (sym (c .before .before .before .before .before .before .is-pointer .ensures) ∙ not-false _ (c .before .before .before .before .before .if1 .left)) in let room = target-field g p i (pre .0 .indexed .formed) h (c .before .before .before .cell .ensures .0) (c .before .before .if2 .left) (c .before .submodel-offset .ensures) .room in omega arith
+
+add-t24 : tie.Need-add-t24
+add-t24 c = let pre = c .before .before .before .before .before .before .before .before .before .before .before .before .before .before .pre in let a = c .before .before .before .before .before .before .before .before .before .before .before .before .before .before .args in let R : Recipe = record { width = a .w; bytes = a .s .now } in let g = pre .1 .0 in let p = a .p in let i = pre .1 .1 in let h = pointer-byte R p ∙ (sym (c .before .before .before .before .before .before .is-pointer .ensures) ∙ not-false _ (c .before .before .before .before .before .if1 .left)) in omega (arith, way-low g p i (pre .0 .indexed .formed) h (c .before .before .before .cell .ensures .0) (c .before .before .if2 .left) (c .before .submodel-offset .ensures))
+
+cell-requires-2 : tie.Need-cell-requires-2
+cell-requires-2 c κs = let pre = c .before .before .before .before .before .before .before .before .before .before .before .before .before .before .before .pre in let a = c .before .before .before .before .before .before .before .before .before .before .before .before .before .before .before .args in let R : Recipe = record { width = a .w; bytes = a .s .now } in let g = pre .1 .0 in let p = a .p in let i = pre .1 .1 in let h = pointer-byte R p ∙ (sym (c .before .before .before .before .before .before .before .is-pointer .ensures) ∙ not-false _ (c .before .before .before .before .before .before .if1 .left)) in omega (arith, submodel-room g p i (pre .0 .indexed .formed) h (c .before .before .before .before .cell .ensures .0) (c .before .before .before .if2 .left) (c .before .before .submodel-offset .ensures))
+
+add-t21 : tie.Need-add-t21
+add-t21 c = let pre = c .before .before .before .before .before .before .before .before .before .before .before .before .before .before .before .before .pre in let a = c .before .before .before .before .before .before .before .before .before .before .before .before .before .before .before .before .args in let R : Recipe = record { width = a .w; bytes = a .s .now } in let g = pre .1 .0 in let p = a .p in let i = pre .1 .1 in let h = pointer-byte R p ∙ (sym (c .before .before .before .before .before .before .before .before .is-pointer .ensures) ∙ not-false _ (c .before .before .before .before .before .before .before .if1 .left)) in let room = target-field g p i (pre .0 .indexed .formed) h (c .before .before .before .before .before .cell .ensures .0) (c .before .before .before .before .if2 .left) (c .before .before .before .submodel-offset .ensures) .room in omega arith
+
+find-record-requires : tie.Need-find-record-requires
+find-record-requires c κs = let pre = c .before .before .before .before .before .before .before .before .before .before .before .before .before .before .before .before .pre in let a = c .before .before .before .before .before .before .before .before .before .before .before .before .before .before .before .before .args in let R : Recipe = record { width = a .w; bytes = a .s .now } in let g = pre .1 .0 in let p = a .p in let i = pre .1 .1 in let h = pointer-byte R p ∙ (sym (c .before .before .before .before .before .before .before .before .is-pointer .ensures) ∙ not-false _ (c .before .before .before .before .before .before .before .if1 .left)) in (pre .0, target-sought g p i (pre .0 .indexed .formed) h (c .before .before .before .before .before .cell .ensures .0) (c .before .before .before .before .if2 .left) (c .before .before .before .submodel-offset .ensures) (c .cell2 .ensures .0))
+
+set-cell-requires : tie.Need-set-cell-requires
+set-cell-requires c κs = let pre = c .before .before .before .before .before .before .before .before .before .before .before .before .before .before .before .before .before .before .before .pre in let a = c .before .before .before .before .before .before .before .before .before .before .before .before .before .before .before .before .before .before .before .args in let R : Recipe = record { width = a .w; bytes = a .s .now } in let g = pre .1 .0 in let p = a .p in let i = pre .1 .1 in (omega (arith, cells-room g p i), c .wide .ensures .1)
+
+returns-3 : tie.Need-returns-3
+returns-3 c = let pre = c .before .before .before .before .before .before .before .before .before .before .before .before .before .before .before .before .before .before .before .before .before .before .pre in let a = c .before .before .before .before .before .before .before .before .before .before .before .before .before .before .before .before .before .before .before .before .before .before .args in let R : Recipe = record { width = a .w; bytes = a .s .now } in let g = pre .1 .0 in let p = a .p in let i = pre .1 .1 in let h = pointer-byte R p ∙ (sym (c .before .before .before .before .before .before .before .before .before .before .before .before .before .before .is-pointer .ensures) ∙ not-false _ (c .before .before .before .before .before .before .before .before .before .before .before .before .before .if1 .left)) in target-written g p i (pre .0 .indexed .formed) h (c .before .before .before .before .before .before .before .before .before .before .before .cell .ensures .0) (c .before .before .before .before .before .before .before .before .before .before .if2 .left) (c .before .before .before .before .before .before .before .before .before .submodel-offset .ensures) (c .before .before .before .before .before .before .cell2 .ensures .0) (c .before .before .before .before .before .find-record .ensures) (c .before .before .before .wide .ensures .0) (c .before .before .set-cell .ensures)
+
+pub name-target-spec : {M : Type 1} → statement M
+name-target-spec = tie.close (tie.spec shared-slice-read-k (search needs) returns cell-requires (search needs) returns-2
+    add-way submodel-offset-requires add-way-2 add-way-3 shared-slice-read-t15 add-t24 cell-requires-2 add-t21
+    find-record-requires (search needs) set-cell-requires (search needs) returns-3)

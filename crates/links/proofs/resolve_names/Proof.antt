@@ -1,0 +1,19 @@
+-- `links::resolve_names` meets its contract: from what indexing and judging ensure.
+-- Assumes nothing.
+use mathlib.Core.Path.{sym}
+use lib.Seq.{length-take-le}
+use native.Mathlib.Omega.{arith}
+use borrow.Author.Needs.{needs}
+use Rattle.links.proofs.resolve_names.Statement.{statement}
+use Rattle.links.proofs.resolve_names.Tie as tie
+
+index-names-requires : tie.Need-index-names-requires
+index-names-requires c κs = (c .before .before .before .before .before .before .before .pre .0, (c .before .before .before .before .before .before .before .pre .1, (omega arith, (omega arith, (omega arith, omega arith)))))
+
+slice-aggregate-judge-names : tie.Need-slice-aggregate-judge-names
+slice-aggregate-judge-names c = sym (length-take-le (c .before .before .before .before .before .index-names .result) (c .before .before .before .before .before .index-names .last .1 .1 .1 .0) (omega (arith, c .before .before .before .before .before .index-names .ensures .0, c .before .before .before .before .at2 .given)))
+
+pub resolve-names-spec : {M : Type 1} → statement M
+resolve-names-spec = tie.close (tie.spec (search needs) (search needs) (search needs) (search needs)
+    index-names-requires (search needs) slice-aggregate-judge-names (search needs) (search needs) (search needs)
+    (λ c κs. search needs) (search needs) (λ c. search needs))

@@ -1,0 +1,53 @@
+-- `marks::judge_marks` meets its contract: rows 9 to 12, row by row.
+-- Assumes nothing.
+use mathlib.Core.Path.{_∙_, refl, sym}
+use borrow.Author.Needs.{needs}
+use Rattle.names.proofs.Judging.{no-rows, not-zero, row-hit, row-miss}
+use Rattle.names.proofs.Scans.{found-nothing}
+use Rattle.marks.proofs.Elements.{known}
+use Rattle.marks.proofs.Judged.{composed, gones-stepped, no-steps, ready, rows-listed, rows-stepped, wide-still}
+use Rattle.marks.proofs.judge_marks.Statement.{statement}
+use Rattle.marks.proofs.judge_marks.Tie as tie
+
+first-conflict-requires : tie.Need-first-conflict-requires
+first-conflict-requires c κs = (ready (c .before .before .before .before .before .pre .0), refl)
+
+returns : tie.Need-returns
+returns c = (c .refuse .ensures ∙ row-hit 9 _ _ (sym (c .before .before .p .given .1) ∙ c .before .before .before .before .before .first-conflict .ensures .0), λ z. not-zero _ 8 _ (c .refuse .ensures) z)
+
+first-misclassed-requires : tie.Need-first-misclassed-requires
+first-misclassed-requires c κs = (c .before .before .before .before .before .before .before .before .before .pre .0) .aimed
+
+returns-2 : tie.Need-returns-2
+returns-2 c = (c .refuse2 .ensures ∙ (row-hit 10 _ _ (sym (c .before .before .p2 .given .1) ∙ c .before .before .before .before .first-misclassed .ensures) ∙ row-miss 9 _ _ (sym (c .before .before .before .before .before .enum-told .given .1) ∙ c .before .before .before .before .before .before .before .before .first-conflict .ensures .0)), λ z. not-zero _ 9 _ (c .refuse2 .ensures) z)
+
+list-elements-requires : tie.Need-list-elements-requires
+list-elements-requires c κs = (ready (c .before .before .before .before .before .before .before .before .before .before .before .before .before .pre .0), c .before .before .before .before .before .before .before .before .before .before .before .before .before .pre .1 .1)
+
+mark-gone-requires : tie.Need-mark-gone-requires
+mark-gone-requires c κs = let z = c .before .before .before .before .before .before .before .before .before .before .before .before .first-conflict .ensures .1 (c .before .before .before .before .before .before .before .before .before .enum-told .given .1) in (known (c .before .before .before .before .before .before .before .before .before .before .before .before .before .before .before .before .before .before .pre .0), (z .0, (z .1, (rows-listed (c .before .before .before .before .before .before .before .before .before .before .before .before .before .before .before .before .before .before .pre .0) (c .before .before .before .before .before .before .before .before .before .before .before .before .before .before .before .before .before .before .args .el .now) _ (c .before .before .before .before .before .before .before .before .before .before .before .before .before .before .before .before .before .before .pre .1 .1) (c .before .before .before .before .list-elements .ensures .1) (c .before .before .before .before .list-elements .ensures .0), c .before .before .before .before .before .before .before .before .before .before .before .before .before .before .before .before .before .before .pre .1 .0))))
+
+first-lost-requires : tie.Need-first-lost-requires
+first-lost-requires c κs = (ready (c .before .before .before .before .before .before .before .before .before .before .before .before .before .before .before .before .before .before .before .before .before .before .pre .0), (c .before .before .before .mark-gone .ensures .0, wide-still (c .before .before .before .before .before .before .before .before .before .before .before .before .before .before .before .before .before .before .before .before .before .before .pre .0) (c .before .before .before .before .before .before .before .before .before .before .before .before .before .before .before .before .before .before .before .before .before .before .args .el .now) _ (c .before .before .before .before .before .before .before .before .before .before .before .before .before .before .before .before .before .before .before .before .before .before .pre .1 .1) (c .before .before .before .before .before .before .before .before .list-elements .ensures .1) (c .before .before .before .before .before .before .before .before .list-elements .ensures .0) _ (c .before .before .before .mark-gone .ensures .1)))
+
+returns-3 : tie.Need-returns-3
+returns-3 c = (c .refuse3 .ensures ∙ (row-hit 11 _ _ (sym (c .before .before .p3 .given .1) ∙ c .before .before .before .before .first-lost .ensures) ∙ (row-miss 10 _ _ (sym (c .before .before .before .before .before .before .before .before .before .before .before .before .before .before .before .enum-told2 .given .1) ∙ c .before .before .before .before .before .before .before .before .before .before .before .before .before .before .before .before .before .first-misclassed .ensures) ∙ row-miss 9 _ _ (sym (c .before .before .before .before .before .before .before .before .before .before .before .before .before .before .before .before .before .before .enum-told .given .1) ∙ c .before .before .before .before .before .before .before .before .before .before .before .before .before .before .before .before .before .before .before .before .before .first-conflict .ensures .0))), λ z. not-zero _ 10 _ (c .refuse3 .ensures) z)
+
+fill-steps-requires : tie.Need-fill-steps-requires
+fill-steps-requires c κs = (ready (c .before .before .before .before .before .before .before .before .before .before .before .before .before .before .before .before .before .before .before .before .before .before .before .before .before .before .pre .0), (found-nothing (sym (c .before .before .before .before .before .before .before .before .before .before .before .before .before .before .before .before .before .enum-told .given .1) ∙ c .before .before .before .before .before .before .before .before .before .before .before .before .before .before .before .before .before .before .before .before .first-conflict .ensures .0), (no-steps (c .before .before .before .before .before .before .before .before .before .before .before .before .before .before .before .before .before .before .before .before .before .before .before .before .before .before .pre .0) (c .before .before .before .before .before .before .before .before .before .before .before .before .before .before .before .before .before .before .before .before .before .before .before .before .before .before .args .el .now) _ (c .before .before .before .before .before .before .before .before .before .before .before .before .before .before .before .before .before .before .before .before .before .before .before .before .before .before .pre .1 .1) (c .before .before .before .before .before .before .before .before .before .before .before .before .list-elements .ensures .1) (c .before .before .before .before .before .before .before .before .before .before .before .before .list-elements .ensures .0) _ (c .before .before .before .before .before .before .before .mark-gone .ensures .1), wide-still (c .before .before .before .before .before .before .before .before .before .before .before .before .before .before .before .before .before .before .before .before .before .before .before .before .before .before .pre .0) (c .before .before .before .before .before .before .before .before .before .before .before .before .before .before .before .before .before .before .before .before .before .before .before .before .before .before .args .el .now) _ (c .before .before .before .before .before .before .before .before .before .before .before .before .before .before .before .before .before .before .before .before .before .before .before .before .before .before .pre .1 .1) (c .before .before .before .before .before .before .before .before .before .before .before .before .list-elements .ensures .1) (c .before .before .before .before .before .before .before .before .before .before .before .before .list-elements .ensures .0) _ (c .before .before .before .before .before .before .before .mark-gone .ensures .1))))
+
+first-misreferred-requires : tie.Need-first-misreferred-requires
+first-misreferred-requires c κs = (known (c .before .before .before .before .before .before .before .before .before .before .before .before .before .before .before .before .before .before .before .before .before .before .before .before .before .before .before .before .before .before .pre .0), (rows-stepped (c .before .before .before .before .before .before .before .before .before .before .before .before .before .before .before .before .before .before .before .before .before .before .before .before .before .before .before .before .before .before .pre .0) (c .before .before .before .before .before .before .before .before .before .before .before .before .before .before .before .before .before .before .before .before .before .before .before .before .before .before .before .before .before .before .args .el .now) _ (c .before .before .before .before .before .before .before .before .before .before .before .before .before .before .before .before .before .before .before .before .before .before .before .before .before .before .before .before .before .before .pre .1 .1) (c .before .before .before .before .before .before .before .before .before .before .before .before .before .before .before .before .list-elements .ensures .1) (c .before .before .before .before .before .before .before .before .before .before .before .before .before .before .before .before .list-elements .ensures .0) _ (c .before .before .before .before .before .before .before .before .before .before .before .mark-gone .ensures .1) (c .before .before .before .before .before .before .before .before .before .before .before .mark-gone .ensures .0) _ (c .before .before .before .fill-steps .ensures .1), (gones-stepped (c .before .before .before .before .before .before .before .before .before .before .before .before .before .before .before .before .before .before .before .before .before .before .before .before .before .before .before .before .before .before .pre .0) (c .before .before .before .before .before .before .before .before .before .before .before .before .before .before .before .before .before .before .before .before .before .before .before .before .before .before .before .before .before .before .args .el .now) _ (c .before .before .before .before .before .before .before .before .before .before .before .before .before .before .before .before .before .before .before .before .before .before .before .before .before .before .before .before .before .before .pre .1 .1) (c .before .before .before .before .before .before .before .before .before .before .before .before .before .before .before .before .list-elements .ensures .1) (c .before .before .before .before .before .before .before .before .before .before .before .before .before .before .before .before .list-elements .ensures .0) _ (c .before .before .before .before .before .before .before .before .before .before .before .mark-gone .ensures .1) (c .before .before .before .before .before .before .before .before .before .before .before .mark-gone .ensures .0) _ (c .before .before .before .fill-steps .ensures .1), (c .before .before .before .fill-steps .ensures .0, c .before .before .before .before .before .before .before .before .before .before .before .before .before .before .before .before .before .before .before .before .before .before .before .before .before .before .before .before .before .before .pre .1 .0))))
+
+returns-4 : tie.Need-returns-4
+returns-4 c = (c .refuse4 .ensures ∙ (row-hit 12 _ _ (sym (c .before .before .p4 .given .1) ∙ c .before .before .before .before .before .before .first-misreferred .ensures .0) ∙ (row-miss 11 _ _ (sym (c .before .before .before .before .before .before .before .before .before .before .before .before .enum-told3 .given .1) ∙ c .before .before .before .before .before .before .before .before .before .before .before .before .before .before .first-lost .ensures) ∙ (row-miss 10 _ _ (sym (c .before .before .before .before .before .before .before .before .before .before .before .before .before .before .before .before .before .before .before .before .before .before .before .before .before .enum-told2 .given .1) ∙ c .before .before .before .before .before .before .before .before .before .before .before .before .before .before .before .before .before .before .before .before .before .before .before .before .before .before .before .first-misclassed .ensures) ∙ row-miss 9 _ _ (sym (c .before .before .before .before .before .before .before .before .before .before .before .before .before .before .before .before .before .before .before .before .before .before .before .before .before .before .before .before .enum-told .given .1) ∙ c .before .before .before .before .before .before .before .before .before .before .before .before .before .before .before .before .before .before .before .before .before .before .before .before .before .before .before .before .before .before .before .first-conflict .ensures .0)))), λ z. not-zero _ 11 _ (c .refuse4 .ensures) z)
+
+returns-5 : tie.Need-returns-5
+returns-5 c = (c .refuse5 .ensures ∙ (no-rows ∙ (row-miss 12 _ _ (sym (c .before .enum-told4 .given .1) ∙ c .before .before .before .before .before .first-misreferred .ensures .0) ∙ (row-miss 11 _ _ (sym (c .before .before .before .before .before .before .before .before .before .before .before .enum-told3 .given .1) ∙ c .before .before .before .before .before .before .before .before .before .before .before .before .before .first-lost .ensures) ∙ (row-miss 10 _ _ (sym (c .before .before .before .before .before .before .before .before .before .before .before .before .before .before .before .before .before .before .before .before .before .before .before .before .enum-told2 .given .1) ∙ c .before .before .before .before .before .before .before .before .before .before .before .before .before .before .before .before .before .before .before .before .before .before .before .before .before .before .first-misclassed .ensures) ∙ row-miss 9 _ _ (sym (c .before .before .before .before .before .before .before .before .before .before .before .before .before .before .before .before .before .before .before .before .before .before .before .before .before .before .before .enum-told .given .1) ∙ c .before .before .before .before .before .before .before .before .before .before .before .before .before .before .before .before .before .before .before .before .before .before .before .before .before .before .before .before .before .before .first-conflict .ensures .0))))), λ z. composed (c .before .before .before .before .before .before .before .before .before .before .before .before .before .before .before .before .before .before .before .before .before .before .before .before .before .before .before .before .before .before .before .before .before .before .before .before .pre .0) (c .before .before .before .before .before .before .before .before .before .before .before .before .before .before .before .before .before .before .before .before .before .before .before .before .before .before .before .before .before .before .before .before .before .before .before .before .args .el .now) _ (c .before .before .before .before .before .before .before .before .before .before .before .before .before .before .before .before .before .before .before .before .before .before .before .before .before .before .before .before .before .before .before .before .before .before .before .before .pre .1 .1) (c .before .before .before .before .before .before .before .before .before .before .before .before .before .before .before .before .before .before .before .before .before .before .list-elements .ensures .1) (c .before .before .before .before .before .before .before .before .before .before .before .before .before .before .before .before .before .before .before .before .before .before .list-elements .ensures .0) _ (c .before .before .before .before .before .before .before .before .before .before .before .before .before .before .before .before .before .mark-gone .ensures .1) (c .before .before .before .before .before .before .before .before .before .before .before .before .before .before .before .before .before .mark-gone .ensures .0) _ (c .before .before .before .before .before .before .before .before .before .fill-steps .ensures .1) _ (found-nothing (sym (c .before .before .before .before .before .before .before .before .before .before .before .before .before .before .before .before .before .before .before .before .before .before .before .before .before .before .before .enum-told .given .1) ∙ c .before .before .before .before .before .before .before .before .before .before .before .before .before .before .before .before .before .before .before .before .before .before .before .before .before .before .before .before .before .before .first-conflict .ensures .0)) (found-nothing (sym (c .before .before .before .before .before .before .before .before .before .before .before .before .before .before .before .before .before .before .before .before .before .before .before .before .enum-told2 .given .1) ∙ c .before .before .before .before .before .before .before .before .before .before .before .before .before .before .before .before .before .before .before .before .before .before .before .before .before .before .first-misclassed .ensures)) (found-nothing (sym (c .before .before .before .before .before .before .before .before .before .before .before .enum-told3 .given .1) ∙ c .before .before .before .before .before .before .before .before .before .before .before .before .before .first-lost .ensures)) (found-nothing (sym (c .before .enum-told4 .given .1) ∙ c .before .before .before .before .before .first-misreferred .ensures .0)) (c .before .before .before .before .before .before .before .before .before .before .before .before .before .before .before .before .before .before .before .before .before .before .before .before .before .before .before .before .before .before .before .before .before .before .before .before .pre .1 .0) (c .before .before .before .before .before .before .before .before .before .fill-steps .ensures .0) (c .before .before .before .before .before .first-misreferred .ensures .1 .0) (c .before .before .before .before .before .first-misreferred .ensures .1 .1))
+
+pub judge-marks-spec : {M : Type 1} → statement M
+judge-marks-spec = tie.close (tie.spec (search needs) first-conflict-requires (search needs) (search needs) returns
+    (search needs) first-misclassed-requires (search needs) (search needs) returns-2 (search needs)
+    list-elements-requires (search needs) mark-gone-requires first-lost-requires (search needs) (search needs)
+    (search needs) returns-3 (search needs) fill-steps-requires first-misreferred-requires (search needs) (search needs)
+    (search needs) returns-4 (search needs) (search needs) (search needs) returns-5)

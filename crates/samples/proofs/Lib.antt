@@ -1,0 +1,3 @@
+-- The samples hold of the definitions, by computation.
+pub mod Open
+pub mod Starred
