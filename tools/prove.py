@@ -7,6 +7,7 @@
   tools/prove.py take CRATE                        before a change of the code: saves the answers of all proofs, places by name
   tools/prove.py put CRATE FUNCTION..              after it: makes these proofs anew from the saved answers, and says what is new
   tools/prove.py search CRATE                      tries `search needs` at each need, in one run, and keeps it where it closes the need
+  tools/prove.py name CRATE                        names the places that an answer goes back to, each from the one before it
   tools/prove.py short CRATE                       needs that the search closes are answered in the list at a proof's end, and that list is filled to the line
 
 fill(crate, {function: {need: answer}}, {function: uses}) is for a script of one's own: in an answer `c@loop .inv` stands for
@@ -110,6 +111,57 @@ def places(crate):
 NEED = re.compile(r"(?m)^(\S+) : tie\.Need-(\S+)([^\n]*)\n((?:unfolding .*\n)?)\1((?: [^=\n]*)?) =((?:.|\n)*?)(?=\n\n|\n*\Z)")
 
 
+# A path from `c`, with the field that is read where it ends; and a place that has a name.
+PATH = re.compile(r"(?<![\w@.\-])c((?: \.before)+)(?: \.(?!before)([\w\-]+))?(?![\w\-])")
+PLACE = re.compile(r"let (at-[\w\-]+) = (c|at-[\w\-]+)((?: \.before)+) in[ \n]\s*")
+WIDE, LONG = 120, 200
+START = {"pre", "args", "good", "fits", "κs", "blocks"}
+
+
+def with_places(answer):
+    """The answer with a name for each place that it goes back to, where that makes it shorter: `let at-loop = c .before in let at-start = at-loop .before in`."""
+    depths = {}
+    for m in PATH.finditer(answer):
+        field = m.group(2) or "place"
+        depths.setdefault(m.group(1).count(".before"), "start" if field in START else field)
+    if not depths or answer.count(".before") <= max(depths) + 2:
+        return answer
+    names, lets, last = {}, [], ("c", 0)
+    for depth in sorted(depths):
+        name = "at-" + depths[depth]
+        names[depth] = name if name not in names.values() else "%s-%d" % (name, depth)
+        lets.append("let %s = %s%s in" % (names[depth], last[0], " .before" * (depth - last[1])))
+        last = (names[depth], depth)
+    body = PATH.sub(lambda m: names[m.group(1).count(".before")] + (" ." + m.group(2) if m.group(2) else ""), answer)
+    whole = " %s %s" % (" ".join(lets), body.strip())
+    return whole if len(whole) <= LONG and "\n" not in whole else "\n    %s\n    %s" % (" ".join(lets), body.strip())
+
+
+def without_places(answer):
+    """The answer with each place as a path from `c`."""
+    paths = {"c": "c"}
+    while m := PLACE.search(answer):
+        paths[m.group(1)] = paths[m.group(2)] + m.group(3)
+        answer = answer[: m.start()] + re.sub(r"(?<![\w@.\-])%s(?![\w\-])" % re.escape(m.group(1)), lambda _: paths[m.group(1)], answer[m.end() :])
+    return answer
+
+
+def name_places(crate):
+    """Every answer of a crate with its places named."""
+    for path in sorted(glob.glob("crates/%s/proofs/*/Proof.antt" % crate)):
+        old = open(path).read()
+        blocks = old.split("\n\n")
+        for k, block in enumerate(blocks):
+            m = re.match(r"((?:.|\n)*\n\S+(?: \w+)* c(?: κs)? =)((?:.|\n)*)\Z", block)
+            if m and "Need-" in m.group(1):
+                blocks[k] = m.group(1) + with_places(without_places(m.group(2)))
+        new = "\n\n".join(blocks)
+        if new != old:
+            print(path, old.count(".before"), "->", new.count(".before"))
+            with open(path, "w") as file:
+                file.write(new if new.endswith("\n") else new + "\n")
+
+
 def by_name(answer, chain):
     """The answer with each path from `c` named by the field where it ends, `c@if1`, or by the record that has it, `c@^if1`."""
 
@@ -154,7 +206,7 @@ def take(crate):
     for function, needs in places(crate).items():
         if os.path.exists(proof(crate, function)):
             text = open(proof(crate, function)).read()
-            found = {m.group(1): [m.group(4), m.group(5), by_name(m.group(6), needs[m.group(2)])] for m in NEED.finditer(text)}
+            found = {m.group(1): [m.group(4), m.group(5), by_name(without_places(m.group(6)), needs[m.group(2)])] for m in NEED.finditer(text)}
             answers[function] = {"text": text, "answers": found}
     os.makedirs("target/answers", exist_ok=True)
     with open(saved(crate), "w") as file:
@@ -185,7 +237,7 @@ def put(crate, functions):
             unfolding = ""
             if name in answers:
                 unfolding, arguments, answer = answers[name]
-                answer = by_path(answer, chains[function][need], function + " " + name)
+                answer = with_places(by_path(answer, chains[function][need], function + " " + name))
             else:
                 print(function, "has a new need", name)
                 answer = " search needs"
@@ -226,7 +278,6 @@ def search(crate):
 PLAIN = re.compile(r"(?m)^(\S+) : (?:\(\w+ : ℕ\) → )?\S+\.Need-[^\n]*(?:\n  [^\n]*|\n\)[^\n]*)*\n\1(?: [^=\n]*)? = (?:search needs|omega arith)\n\n")
 # The list at the end of a proof. In a cycle it has a head, which ends with the words `NAME.Post`.
 LIST = re.compile(r"(?m)^(\S+-spec =)((?:.|\n)*?(?:(tie\.close\s+\(tie\.spec)|\n    \S+\.Post\n))((?:.|\n)*?)(?(3)\))\s*\Z")
-WIDE = 120
 
 
 def arguments(text):
@@ -284,7 +335,7 @@ def fill(crate, answers, uses={}):
             if m is None:
                 print(function, "has no need", name)
                 continue
-            written = by_path(answer, chains[function].get(m.group(2), []), function + " " + name)
+            written = with_places(by_path(answer, chains[function].get(m.group(2), []), function + " " + name))
             unfolding = "unfolding %s\n" % opened if opened else ""
             new = "%s : tie.Need-%s%s\n%s%s%s = %s" % (name, m.group(2), m.group(3), unfolding, name, m.group(5), written)
             text = text[: m.start()] + new + text[m.end() :]
@@ -337,6 +388,8 @@ if __name__ == "__main__":
         put(words[1], words[2:])
     elif words[:1] == ["search"] and len(words) == 2:
         search(words[1])
+    elif words[:1] == ["name"] and len(words) == 2:
+        name_places(words[1])
     elif words[:1] == ["short"] and len(words) == 2:
         short_lists(words[1])
     elif words[:1] == ["unused"] and len(words) == 2:
