@@ -18,13 +18,13 @@ module _ (table : List ℕ) where
   linesFrom n p = joined (map (rowLine (flatWidth nameWidth) (flatLength nameWidth) table) (rowsFrom (flatWidth nameWidth) (flatLength nameWidth) n p))
 
   -- at the record at p, where the lines before it end: room for the others, and what is left to print
-  pub record Going (text₀ : List ℕ) (at : ℕ) (text : List ℕ) (p end : ℕ) : Type 0 where
+  pub record PrintLoop (text₀ : List ℕ) (at : ℕ) (text : List ℕ) (p end : ℕ) : Type 0 where
     pub inside : p ≤ length table
     pub kept : length text ≡ length text₀
     pub room : end + 211 * ((length table - p) / 205) ≤ length text
     pub left : (text′ : List ℕ) (last : ℕ) → Stands (linesFrom ((length table - p) / 205) p) text end text′ last → Stands (rowLines nameWidth table) text₀ at text′ last
 
-  pub going-start : (text : List ℕ) (at : ℕ) → at ≤ 26 → length table ≤ 65395 → 67335 ≤ length text → Going text at text 0 at
+  pub going-start : (text : List ℕ) (at : ℕ) → at ≤ 26 → length table ≤ 65395 → 67335 ≤ length text → PrintLoop text at text 0 at
   unfolding linesFrom rowLines rows rowCount flatLength flatWidth nameWidth
   going-start text at h l m =
       let all : length table - 0 ≡ length table = omega arith in
@@ -35,10 +35,10 @@ module _ (table : List ℕ) where
         left = λ text′ last s. rw all at s;
       }
 
-  module _ {text₀ : List ℕ} {at : ℕ} {text : List ℕ} {p end : ℕ} (g : Going text₀ at text p end) where
+  module _ {text₀ : List ℕ} {at : ℕ} {text : List ℕ} {p end : ℕ} (g : PrintLoop text₀ at text p end) where
     pub going-more : 205 ≤ length table - p → {text′ : List ℕ} {last : ℕ}
         → Stands (rowLine (flatWidth nameWidth) (flatLength nameWidth) table p) text end text′ last × (last ≤ end + 211)
-        → Going text₀ at text′ (p + 205) last
+        → PrintLoop text₀ at text′ (p + 205) last
     unfolding linesFrom rowsFrom flatLength flatWidth nameWidth
     going-more h {text′} {last} s =
         let one : (length table - p) / 205 ≡ suc ((length table - (p + 205)) / 205) = omega arith in

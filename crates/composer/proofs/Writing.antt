@@ -55,68 +55,71 @@ module _ (s : Recipe) where
       from-survivor t = rw (add-one, drop-cons (treeElements s) e (node [] 0) l) (keep-on survives (getD (treeElements s) e (node [] 0)) (drop (suc e) (treeElements s)) (ap not t))
 
   -- ---- how many there are
-  pub record Counting (total e n : ℕ) : Type 0 where
+  pub record CountLoop (total e n : ℕ) : Type 0 where
     pub low : e ≤ total
     pub few : n ≤ e
     pub rest : n + length (from e) ≡ length (survivors s)
 
-  pub counting-start : (total : ℕ) → Counting total 0 0
-  counting-start total = record { low = omega arith; few = omega arith; rest = rw from-start (omega arith) }
+  pub count-start : (total : ℕ) → CountLoop total 0 0
+  count-start total = record { low = omega arith; few = omega arith; rest = rw from-start (omega arith) }
 
-  module _ {total e n : ℕ} (c : Counting total e n) (t : total ≡ length (treeElements s)) where
-    pub counting-end : total ≤ e → n ≡ length (survivors s)
-    counting-end h = omega (arith, c .rest, ap length (from-end e (omega (arith, t))))
-
-    module _ (l : e < total) where
-      pub counting-gone : isGone s (elementAt s e) ≡ true → Counting total (e + 1) n
-      counting-gone k = record { low = omega arith; few = omega (arith, c .few); rest = omega (arith, c .rest, ap length (from-gone e (omega (arith, t)) k)) }
-
-      pub counting-survivor : isGone s (elementAt s e) ≡ false → Counting total (e + 1) (n + 1)
-      counting-survivor k = record { low = omega arith; few = omega (arith, c .few); rest = omega (arith, c .rest, ap length (from-survivor e (omega (arith, t)) k)) }
-
-  -- ---- their records, written one behind the other: storing those of e and behind it at `at` gives the whole table
-  pub record Going (total : ℕ) (out₀ out : List ℕ) (e at : ℕ) : Type 0 where
-    pub low : e ≤ total
-    pub long : length out ≡ length out₀
-    pub room : at + length (joined (map (flatRecord s) (from e))) ≤ length out
-    pub rest : sets out at (joined (map (flatRecord s) (from e))) ≡ sets out₀ 0 (flat s)
-
-  pub going-start : (total : ℕ) (out : List ℕ) → length (flat s) ≤ length out → Going total out out 0 0
-  unfolding flat
-  going-start total out h = record { low = omega arith; long = refl; room = rw from-start (omega arith); rest = rw from-start refl }
-
-  module _ {total : ℕ} {out₀ out : List ℕ} {e at : ℕ} (g : Going total out₀ out e at) (t : total ≡ length (treeElements s)) where
-    pub going-end : total ≤ e → length (flat s) ≤ length out₀ → out ≡ flat s ++ drop (length (flat s)) out₀
-    going-end h r =
-        sym (ap (λ (l : List Node). sets out at (joined (map (flatRecord s) l))) (from-end e (omega (arith, t))))
-        ∙ g .rest
-        ∙ sets-eq (flat s) out₀ 0 (omega arith)
-        ∙ ap (λ (k : ℕ). flat s ++ drop k out₀) (zero-add (length (flat s)))
+  module _ {total e n : ℕ} (c : CountLoop total e n) (t : total ≡ length (treeElements s)) where
+    pub count-end : total ≤ e → n ≡ length (survivors s)
+    count-end h = omega (arith, c .rest, ap length (from-end e (omega (arith, t))))
 
     module _ (l : e < total) where
-      pub going-gone : isGone s (elementAt s e) ≡ true → Going total out₀ out (e + 1) at
-      going-gone k =
-          let f = from-gone e (omega (arith, t)) k in
-          record { low = omega arith; long = g .long; room = rw f at (g .room); rest = rw f at (g .rest) }
+      pub count-gone : isGone s (elementAt s e) ≡ true → CountLoop total (e + 1) n
+      count-gone k = record { low = omega arith; few = omega (arith, c .few); rest = omega (arith, c .rest, ap length (from-gone e (omega (arith, t)) k)) }
 
-      module _ (k : isGone s (elementAt s e) ≡ false) where
-        one-more : joined (map (flatRecord s) (from e)) ≡ flatRecord s (elementAt s e) ++ joined (map (flatRecord s) (from (e + 1)))
-        one-more = ap (λ (x : List Node). joined (map (flatRecord s) x)) (from-survivor e (omega (arith, t)) k)
+      pub count-survivor : isGone s (elementAt s e) ≡ false → CountLoop total (e + 1) (n + 1)
+      count-survivor k = record { low = omega arith; few = omega (arith, c .few); rest = omega (arith, c .rest, ap length (from-survivor e (omega (arith, t)) k)) }
 
-        pub going-room : at + length (flatRecord s (elementAt s e)) ≤ length out
-        going-room = omega (arith, g .room, ap length one-more, length-append (flatRecord s (elementAt s e)) (joined (map (flatRecord s) (from (e + 1)))))
+  -- ---- a record for each, whatever r gives, written one behind the other: storing those of e and behind it at `at` gives the whole table
+  module _ (r : Node → List ℕ) where
+    abbrev pub whole : List ℕ
+    whole = joined (map r (survivors s))
 
-        pub going-survivor : (n : ℕ) {out′ : List ℕ} → length (flatRecord s (elementAt s e)) ≡ n → out′ ≡ sets out at (flatRecord s (elementAt s e)) → Going total out₀ out′ (e + 1) (at + n)
-        going-survivor n {out′} m o = record {
-          low = omega arith;
-          long = ap length o ∙ length-sets out at (flatRecord s (elementAt s e)) ∙ g .long;
-          room = omega (arith, g .room, ap length one-more, length-append (flatRecord s (elementAt s e)) (joined (map (flatRecord s) (from (e + 1)))), m, ap length o, length-sets out at (flatRecord s (elementAt s e)));
-          rest = ap (λ (y : List ℕ). sets y (at + n) (joined (map (flatRecord s) (from (e + 1))))) o
-              ∙ ap (λ (j : ℕ). sets (sets out at (flatRecord s (elementAt s e))) (at + j) (joined (map (flatRecord s) (from (e + 1))))) (sym m)
-              ∙ sym (sets-append (flatRecord s (elementAt s e)) out at (joined (map (flatRecord s) (from (e + 1)))))
-              ∙ ap (sets out at) (sym one-more)
-              ∙ g .rest;
-        }
+    pub record WriteLoop (total : ℕ) (out₀ out : List ℕ) (e at : ℕ) : Type 0 where
+      pub low : e ≤ total
+      pub long : length out ≡ length out₀
+      pub room : at + length (joined (map r (from e))) ≤ length out
+      pub rest : sets out at (joined (map r (from e))) ≡ sets out₀ 0 whole
+
+    pub write-start : (total : ℕ) (out : List ℕ) → length whole ≤ length out → WriteLoop total out out 0 0
+    write-start total out h = record { low = omega arith; long = refl; room = rw from-start (omega arith); rest = rw from-start refl }
+
+    module _ {total : ℕ} {out₀ out : List ℕ} {e at : ℕ} (g : WriteLoop total out₀ out e at) (t : total ≡ length (treeElements s)) where
+      pub write-end : total ≤ e → length whole ≤ length out₀ → out ≡ whole ++ drop (length whole) out₀
+      write-end h k =
+          sym (ap (λ (l : List Node). sets out at (joined (map r l))) (from-end e (omega (arith, t))))
+          ∙ g .rest
+          ∙ sets-eq whole out₀ 0 (omega arith)
+          ∙ ap (λ (k : ℕ). whole ++ drop k out₀) (zero-add (length whole))
+
+      module _ (l : e < total) where
+        pub write-gone : isGone s (elementAt s e) ≡ true → WriteLoop total out₀ out (e + 1) at
+        write-gone k =
+            let f = from-gone e (omega (arith, t)) k in
+            record { low = omega arith; long = g .long; room = rw f at (g .room); rest = rw f at (g .rest) }
+
+        module _ (k : isGone s (elementAt s e) ≡ false) where
+          one-more : joined (map r (from e)) ≡ r (elementAt s e) ++ joined (map r (from (e + 1)))
+          one-more = ap (λ (x : List Node). joined (map r x)) (from-survivor e (omega (arith, t)) k)
+
+          pub write-room : at + length (r (elementAt s e)) ≤ length out
+          write-room = omega (arith, g .room, ap length one-more, length-append (r (elementAt s e)) (joined (map r (from (e + 1)))))
+
+          pub write-survivor : (n : ℕ) {out′ : List ℕ} → length (r (elementAt s e)) ≡ n → out′ ≡ sets out at (r (elementAt s e)) → WriteLoop total out₀ out′ (e + 1) (at + n)
+          write-survivor n {out′} m o = record {
+            low = omega arith;
+            long = ap length o ∙ length-sets out at (r (elementAt s e)) ∙ g .long;
+            room = omega (arith, g .room, ap length one-more, length-append (r (elementAt s e)) (joined (map r (from (e + 1)))), m, ap length o, length-sets out at (r (elementAt s e)));
+            rest = ap (λ (y : List ℕ). sets y (at + n) (joined (map r (from (e + 1))))) o
+                ∙ ap (λ (j : ℕ). sets (sets out at (r (elementAt s e))) (at + j) (joined (map r (from (e + 1))))) (sym m)
+                ∙ sym (sets-append (r (elementAt s e)) out at (joined (map r (from (e + 1)))))
+                ∙ ap (sets out at) (sym one-more)
+                ∙ g .rest;
+          }
 
 -- ---- what the rows give
 module _ {s : Recipe} {el : List ℕ} {elems : ℕ} (F : FatesRequires s el elems) where

@@ -10,7 +10,7 @@ ghost use Rattle.names.specs.Scans.{scan, foundOf};
 ghost use Rattle.name_index.specs.Index.{nameOf};
 ghost use Rattle.flat_table.specs.Classes.{isClass, parentAllowed, referenceAllowed};
 ghost use Rattle.flat_table.specs.Table.{isMalformedRow, isParentFault, isReferenceFault, isRowFault, refusal, verdictOf, tableVerdict};
-ghost use Rattle.flat_table.specs.Rows.{Fields, RowAt, Rows, Indexed};
+ghost use Rattle.flat_table.specs.Rows.{Fields, RowAt, Rows, RowIndex};
 use name_index::Layout;
 use names::Found;
 
@@ -86,7 +86,7 @@ pub fn reference_allowed(c: u8, k: u8) -> bool
 
 // The record whose flat name is the field f.
 fn find_row(table: &[u8], l: Layout, n: usize, keys: &[u32], index: &[u16], f: &[u8]) -> Found
-    requires { ⌜ Indexed (now table) l n (now keys) (now index) ⌝ }
+    requires { ⌜ RowIndex (now table) l n (now keys) (now index) ⌝ }
     ensures { λ r. ⌜ r ≡ foundOf (scan (λ p. same (nameOf (now (table .entry)) l p) (now (f .entry))) n) ⌝ }
 {
     name_index::find(table, l, n, keys, index, name_index::hash(f), f)
@@ -94,7 +94,7 @@ fn find_row(table: &[u8], l: Layout, n: usize, keys: &[u32], index: &[u16], f: &
 
 // Whether 17 applies to the parent of the record at `at`.
 fn parent_fault(table: &[u8], l: Layout, n: usize, keys: &[u32], index: &[u16], at: usize) -> bool
-    requires { ⌜ Indexed (now table) l n (now keys) (now index) × RowAt (now table) l at ⌝ }
+    requires { ⌜ RowIndex (now table) l n (now keys) (now index) × RowAt (now table) l at ⌝ }
     ensures { λ r. ⌜ r ≡ isParentFault (l .width) (l .stride) (now (table .entry)) at ⌝ }
 {
     let w = l.width;
@@ -118,7 +118,7 @@ fn reference_fault(
     index: &[u16],
     at: usize,
 ) -> bool
-    requires { ⌜ Indexed (now table) l n (now keys) (now index) × RowAt (now table) l at ⌝ }
+    requires { ⌜ RowIndex (now table) l n (now keys) (now index) × RowAt (now table) l at ⌝ }
     ensures { λ r. ⌜ r ≡ isReferenceFault (l .width) (l .stride) (now (table .entry)) at ⌝ }
 {
     let w = l.width;
@@ -135,7 +135,7 @@ fn reference_fault(
 
 // The first record to which 17 applies.
 fn first_unlinked(table: &[u8], l: Layout, n: usize, keys: &[u32], index: &[u16]) -> Found
-    requires { ⌜ Indexed (now table) l n (now keys) (now index) ⌝ }
+    requires { ⌜ RowIndex (now table) l n (now keys) (now index) ⌝ }
     ensures { λ r. ⌜ r ≡ foundOf (scan (λ p. isRowFault (l .width) (l .stride) (now (table .entry)) (p * l .stride)) n) ⌝ }
 {
     let mut i = 0;

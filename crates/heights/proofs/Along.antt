@@ -76,7 +76,7 @@ module _ (s : Recipe) where
   next-place whole p i l = next-from (length (s .bytes)) 0 p whole i l
 
 -- ---- the search for the next submodel of d behind q has come to p
-pub record Seeking (s : Recipe) (d q p : ℕ) : Type 0 where
+pub record NextSubmodelLoop (s : Recipe) (d q p : ℕ) : Type 0 where
   pub after : q < p
   pub within : p ≤ length (s .bytes)
   pub placed : p < length (s .bytes) → In p (places s)
@@ -97,7 +97,7 @@ module _ {s : Recipe} {t : List ℕ} (g : Linked s t) where
     step-before : (m : ℕ) → In m (places s) → m < p + n → m ≤ p
     step-before m j l = before-this s p m i j (rw (step-next s p e) at l)
 
-  pub seek-start : {d q n : ℕ} → In q (places s) → n ≡ recordLength (s .width) (getD (s .bytes) q 0) → Seeking s d q (q + n)
+  pub seek-start : {d q n : ℕ} → In q (places s) → n ≡ recordLength (s .width) (getD (s .bytes) q 0) → NextSubmodelLoop s d q (q + n)
   seek-start {d} {q} i e = record {
     after = place-fits q i e .0;
     within = place-fits q i e .1;
@@ -105,7 +105,7 @@ module _ {s : Recipe} {t : List ℕ} (g : Linked s t) where
     none-yet = λ m j a l. omega (arith, step-before q i e m (in-submodels s d m j .placed) l);
   }
 
-  module _ {d q p : ℕ} (u : Seeking s d q p) where
+  module _ {d q p : ℕ} (u : NextSubmodelLoop s d q p) where
     module _ (l : p < length (s .bytes)) where
       pub seek-fits : {n : ℕ} → n ≡ recordLength (s .width) (getD (s .bytes) p 0) → (p < p + n) × (p + n ≤ length (s .bytes))
       seek-fits e = place-fits p (u .placed l) e
@@ -132,7 +132,7 @@ module _ {s : Recipe} {t : List ℕ} (g : Linked s t) where
       }
 
       -- no submodel
-      pub seek-on : {n : ℕ} → n ≡ recordLength (s .width) (getD (s .bytes) p 0) → (getD (s .bytes) p 0 ≡ 4 → ⊥) → Seeking s d q (p + n)
+      pub seek-on : {n : ℕ} → n ≡ recordLength (s .width) (getD (s .bytes) p 0) → (getD (s .bytes) p 0 ≡ 4 → ⊥) → NextSubmodelLoop s d q (p + n)
       unfolding kind
       seek-on {n} e o = record {
         after = omega (arith, seek-fits e, u .after);

@@ -20,7 +20,7 @@ use Rattle.recipe.proofs.Reaching.{plain-reaches, reaches-plain, reach-in, reac
 use Rattle.recipe.proofs.Spans.{definition-place}
 use Rattle.shadow.specs.Columns.{Linked}
 use Rattle.shadow.proofs.Cells.{apart}
-use Rattle.heights.specs.Search.{NextSubmodel, sum, IsMarked, Marks, Marked, Below}
+use Rattle.heights.specs.Search.{NextSubmodel, sum, IsMarked, Marks, Marked, ModelBelow}
 use Rattle.heights.proofs.Along.{Through, through-start, through-on, through-end, through-model}
 
 -- ---- sums
@@ -97,12 +97,12 @@ abbrev pub ModelMarked : Recipe → List ℕ → ℕ → Type 0
 ModelMarked s mark m = IsMarked mark (modelOf s m)
 
 pub record ExpandLoop (s : Recipe) (d : ℕ) (mark₀ queue₀ : List ℕ) (tail₀ : ℕ) (mark queue : List ℕ) (tail p : ℕ) : Type 0 where
-  pub marked : Marked (Below s d) mark₀ queue₀ tail₀ mark queue tail
+  pub marked : Marked (ModelBelow s d) mark₀ queue₀ tail₀ mark queue tail
   pub through : Through s d (ModelMarked s mark) p
 
 module _ {s : Recipe} {d : ℕ} {mark₀ queue₀ : List ℕ} {tail₀ : ℕ} where
   pub expand-start : {p : ℕ} → Marks mark₀ queue₀ tail₀ → NextSubmodel s d d p → ExpandLoop s d mark₀ queue₀ tail₀ mark₀ queue₀ tail₀ p
-  expand-start r n = record { marked = marked-none r (Below s d); through = through-start (ModelMarked s mark₀) n }
+  expand-start r n = record { marked = marked-none r (ModelBelow s d); through = through-start (ModelMarked s mark₀) n }
 
   module _ {mark queue : List ℕ} {tail p : ℕ} (u : ExpandLoop s d mark₀ queue₀ tail₀ mark queue tail p) where
     pub expand-on : {t mark′ queue′ : List ℕ} {tail′ e r : ℕ} → Linked s t → p < length (s .bytes) → e ≡ getD t (p + 3) 0
@@ -125,7 +125,7 @@ module _ {s : Recipe} {d : ℕ} {mark₀ queue₀ : List ℕ} {tail₀ : ℕ} wh
           through = through-on (u .through) (ModelMarked s mark′) n (λ m i k. w .keeps (modelOf s m / 13) k) (rw model at (a .1));
         }
 
-    pub expand-end : length (s .bytes) ≤ p → Marked (Below s d) mark₀ queue₀ tail₀ mark queue tail × ((x : ℕ) → Below s d x → IsMarked mark x)
+    pub expand-end : length (s .bytes) ≤ p → Marked (ModelBelow s d) mark₀ queue₀ tail₀ mark queue tail × ((x : ℕ) → ModelBelow s d x → IsMarked mark x)
     expand-end l = (u .marked, λ x b. rw (b .2) at (through-end (u .through) l (b .0) (b .1)))
 
 -- ---- the search
@@ -146,8 +146,8 @@ marks-start = record {
 pub record SearchLoop (s : Recipe) (d : ℕ) (mark queue : List ℕ) (tail head : ℕ) : Type 0 where
   pub right : Marks mark queue tail
   pub sound : (i : ℕ) → i < tail → Reach s d (getD queue i 0)
-  pub own : (x : ℕ) → Below s d x → IsMarked mark x
-  pub done : (i : ℕ) → i < head → (x : ℕ) → Below s (getD queue i 0) x → IsMarked mark x
+  pub own : (x : ℕ) → ModelBelow s d x → IsMarked mark x
+  pub done : (i : ℕ) → i < head → (x : ℕ) → ModelBelow s (getD queue i 0) x → IsMarked mark x
 
 -- two definitions have two marks
 mark-own : {s : Recipe} {t : List ℕ} → Linked s t → (d e : ℕ) → In d (definitions s) → In e (definitions s) → d / 13 ≡ e / 13 → d ≡ e
@@ -158,7 +158,7 @@ mark-own {s} g d e i j q =
     three d e (λ u. absurd (omega (arith, apart c d e k l u))) (λ u. u) (λ u. absurd (omega (arith, apart c e d l k u)))
 
 module _ {s : Recipe} {d : ℕ} where
-  pub search-start : {mark₀ queue₀ mark queue : List ℕ} {tail : ℕ} → Marked (Below s d) mark₀ queue₀ 0 mark queue tail × ((x : ℕ) → Below s d x → IsMarked mark x) → SearchLoop s d mark queue tail 0
+  pub search-start : {mark₀ queue₀ mark queue : List ℕ} {tail : ℕ} → Marked (ModelBelow s d) mark₀ queue₀ 0 mark queue tail × ((x : ℕ) → ModelBelow s d x → IsMarked mark x) → SearchLoop s d mark queue tail 0
   search-start v = record {
     right = v .0 .right;
     sound = λ i l. let b = v .0 .new i (omega arith) l in direct (b .0) (b .1) (b .2);
@@ -171,7 +171,7 @@ module _ {s : Recipe} {d : ℕ} where
       pub head-in : In (getD queue head 0) (definitions s)
       head-in = reach-in s (f .sound head l)
 
-      pub search-more : {mark′ queue′ : List ℕ} {tail′ e : ℕ} → e ≡ getD queue head 0 → Marked (Below s e) mark queue tail mark′ queue′ tail′ × ((x : ℕ) → Below s e x → IsMarked mark′ x)
+      pub search-more : {mark′ queue′ : List ℕ} {tail′ e : ℕ} → e ≡ getD queue head 0 → Marked (ModelBelow s e) mark queue tail mark′ queue′ tail′ × ((x : ℕ) → ModelBelow s e x → IsMarked mark′ x)
           → SearchLoop s d mark′ queue′ tail′ (head + 1)
       search-more {mark′} {queue′} {tail′} {e} q v = record {
         right = v .0 .right;
@@ -197,7 +197,7 @@ module _ {s : Recipe} {d : ℕ} where
           let z = f .right .queued (e / 13) k in
           (z .0, z .1, mark-own g (getD queue (z .0) 0) e (reach-in s (f .sound (z .0) (z .1))) o (z .2))
 
-      complete : {a e : ℕ} → Reach s a e → ((x : ℕ) → Below s a x → IsMarked mark x) → IsMarked mark e
+      complete : {a e : ℕ} → Reach s a e → ((x : ℕ) → ModelBelow s a x → IsMarked mark x) → IsMarked mark e
       complete {a} {e} (direct m i h) o = o e (m, i, h)
       complete {a} {e} (onward m i r) o =
           let z = queued-at (modelOf s m) (model-in s a m i) (o (modelOf s m) (m, i, refl)) in

@@ -26,7 +26,7 @@ use Rattle.shadow.specs.Columns.{Linked, Heights}
 use Rattle.shadow.proofs.Cells.{cell-set, cell-kept, kept-all, kept-set, kept-then, Walking, walk-start, walk-place, walk-one, before-next}
 use Rattle.shadow.proofs.Columns.{linked-over}
 use Rattle.heights.specs.Search.{NextSubmodel}
-use Rattle.heights.specs.Heights.{heightOf, isUnseen, isSettled, higherOf, countOf, Partly, Grown, Enters, Grows, Decides}
+use Rattle.heights.specs.Heights.{heightOf, isUnseen, isSettled, higherOf, countOf, Partly, HeightsAdded, SettleFromRequires, Grows, Decides}
 use Rattle.heights.proofs.Along.{linked-room, definition-low, submodel-after, Through, through-start, through-on, through-end, through-model, through-in}
 
 -- ---- members that pass a test
@@ -101,27 +101,27 @@ decides-no P f = record { yes = λ e. absurd (false≢true e); no = λ e. f }
 
 -- ---- what has grown, over two stretches
 module _ {s : Recipe} where
-  grown-none : (t : List ℕ) → Grown s t t
+  grown-none : (t : List ℕ) → HeightsAdded s t t
   grown-none t = record { kept = kept-all s (6 ∷ []) t; same = λ x i l. refl; busy = λ x i e. e }
 
-  grown-then : {t₀ t t′ : List ℕ} → Grown s t₀ t → Grown s t t′ → Grown s t₀ t′
+  grown-then : {t₀ t t′ : List ℕ} → HeightsAdded s t₀ t → HeightsAdded s t t′ → HeightsAdded s t₀ t′
   grown-then a b = record {
     kept = kept-then (a .kept) (b .kept);
     same = λ x i l. b .same x i (omega (arith, a .same x i l)) ∙ a .same x i l;
     busy = λ x i e. a .busy x i (b .busy x i e);
   }
 
-  grown-settled : {t₀ t : List ℕ} → Grown s t₀ t → (x : ℕ) → In x (definitions s) → isSettled (heightOf t₀ x) ≡ true → isSettled (heightOf t x) ≡ true
+  grown-settled : {t₀ t : List ℕ} → HeightsAdded s t₀ t → (x : ℕ) → In x (definitions s) → isSettled (heightOf t₀ x) ≡ true → isSettled (heightOf t x) ≡ true
   grown-settled {t₀} k x i e = ap isSettled (k .same x i (settled-some (heightOf t₀ x) e)) ∙ e
 
-  grown-count : {t₀ t : List ℕ} → Grown s t₀ t → countOf isSettled s t₀ ≤ countOf isSettled s t
+  grown-count : {t₀ t : List ℕ} → HeightsAdded s t₀ t → countOf isSettled s t₀ ≤ countOf isSettled s t
   grown-count {t₀} {t} k = keep-more (λ d. isSettled (heightOf t₀ d)) (λ d. isSettled (heightOf t d)) (definitions s) (grown-settled k)
 
 pub linked-heights : {s : Recipe} {t₀ t : List ℕ} → Kept s (6 ∷ []) t₀ t → Linked s t₀ → Linked s t
 linked-heights k g = linked-over k refl refl g
 
 -- ---- the height of d is written
-module _ {s : Recipe} {t₀ : List ℕ} {d : ℕ} (x : Enters s t₀ d) where
+module _ {s : Recipe} {t₀ : List ℕ} {d : ℕ} (x : SettleFromRequires s t₀ d) where
   enter-shadowed : Shadowed s t₀
   enter-shadowed = x .linked .numbered .shadowed
 
@@ -131,7 +131,7 @@ module _ {s : Recipe} {t₀ : List ℕ} {d : ℕ} (x : Enters s t₀ d) where
   pub enter-room : d + 13 ≤ length t₀
   enter-room = linked-room (x .linked) d enter-place
 
-module _ {s : Recipe} {t₀ : List ℕ} {d : ℕ} (x : Enters s t₀ d) (t : List ℕ) (v : ℕ) where
+module _ {s : Recipe} {t₀ : List ℕ} {d : ℕ} (x : SettleFromRequires s t₀ d) (t : List ℕ) (v : ℕ) where
   put-kept : Kept s (6 ∷ []) t (set t (d + 6) v)
   put-kept = kept-set d 6 v (enter-shadowed x) (kept-all s (6 ∷ []) t) (enter-place x) (omega arith) refl
 
@@ -187,12 +187,12 @@ abbrev pub IsUnder : Recipe → List ℕ → ℕ → ℕ → Type 0
 IsUnder s t h m = (isSettled (heightOf t (modelOf s m)) ≡ true) × (heightOf t (modelOf s m) ≤ h)
 
 pub record SettleLoop (s : Recipe) (d : ℕ) (t₀ t : List ℕ) (h p : ℕ) : Type 0 where
-  pub grown : Grown s t₀ t
+  pub grown : HeightsAdded s t₀ t
   pub partly : Partly s t
   pub few : h ≤ countOf isSettled s t
   pub through : Through s d (IsUnder s t h) p
 
-module _ {s : Recipe} {t₀ : List ℕ} {d : ℕ} (x : Enters s t₀ d) where
+module _ {s : Recipe} {t₀ : List ℕ} {d : ℕ} (x : SettleFromRequires s t₀ d) where
   -- d itself is in progress, or settled already
   pub meets-itself : {seen : ℕ} → seen ≡ heightOf t₀ d → seen ≡ 65535 → fault₆ s ≡ none → ⊥
   meets-itself q e f = no-cycle s f d (x .definition) (x .path d (x .definition) (sym q ∙ e))
@@ -259,7 +259,7 @@ module _ {s : Recipe} {t₀ : List ℕ} {d : ℕ} (x : Enters s t₀ d) where
 
       module _ {e : ℕ} (l : p < length (s .bytes)) (q : e ≡ getD t (p + 3) 0) where
         -- what is in progress reaches d, and so its submodel's model
-        pub call-enters : Enters s t e
+        pub call-enters : SettleFromRequires s t e
         call-enters =
             let to : Reach s d e = direct p (u .through .one l) (sym (q ∙ through-model (u .through) now-linked l)) in
             record {
@@ -356,7 +356,7 @@ module _ {s : Recipe} {t₀ t : List ℕ} {p : ℕ} (g : Linked s t₀) (u : Set
       settles-holder : d ≡ holder s p
       settles-holder = q ∙ settles-linked .numbered .held p settles-place
 
-      pub settles-enters : Enters s t d
+      pub settles-enters : SettleFromRequires s t d
       settles-enters = record {
         linked = settles-linked;
         partly = u .partly;

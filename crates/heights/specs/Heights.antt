@@ -38,13 +38,13 @@ pub record Partly (s : Recipe) (t : List ℕ) : Type 0 where
   pub low : (d : ℕ) → In d (definitions s) → isSettled (heightOf t d) ≡ true → heightOf t d ≤ countOf isSettled s t
 
 -- only heights are written: those seen stay as they are, and nothing new is in progress
-pub record Grown (s : Recipe) (t₀ t : List ℕ) : Type 0 where
+pub record HeightsAdded (s : Recipe) (t₀ t : List ℕ) : Type 0 where
   pub kept : Kept s (6 ∷ []) t₀ t
   pub same : (x : ℕ) → In x (definitions s) → 1 ≤ heightOf t₀ x → heightOf t x ≡ heightOf t₀ x
   pub busy : (x : ℕ) → In x (definitions s) → heightOf t x ≡ 65535 → heightOf t₀ x ≡ 65535
 
 -- what settling d asks: each definition in progress reaches it
-pub record Enters (s : Recipe) (t : List ℕ) (d : ℕ) : Type 0 where
+pub record SettleFromRequires (s : Recipe) (t : List ℕ) (d : ℕ) : Type 0 where
   pub linked : Linked s t
   pub partly : Partly s t
   pub definition : In d (definitions s)
@@ -53,7 +53,7 @@ pub record Enters (s : Recipe) (t : List ℕ) (d : ℕ) : Type 0 where
 -- d is settled besides what was
 pub record Grows (s : Recipe) (t₀ t : List ℕ) (d : ℕ) : Type 0 where
   pub partly : Partly s t
-  pub grown : Grown s t₀ t
+  pub grown : HeightsAdded s t₀ t
   pub own : isSettled (heightOf t d) ≡ true
 
 -- P holds, or row 6 applies

@@ -41,5 +41,5 @@ pub record Marked (P : ℕ → Type 0) (mark queue : List ℕ) (tail : ℕ) (mar
   pub new : (i : ℕ) → tail ≤ i → i < tail′ → P (getD queue′ i 0)
 
 -- e is the model of a submodel of d
-abbrev pub Below : Recipe → ℕ → ℕ → Type 0
-Below s d e = (m : ℕ) × In m (submodels s d) × (modelOf s m ≡ e)
+abbrev pub ModelBelow : Recipe → ℕ → ℕ → Type 0
+ModelBelow s d e = (m : ℕ) × In m (submodels s d) × (modelOf s m ≡ e)

@@ -13,8 +13,8 @@ ghost use Rattle.recipe.specs.Reaching.{reaches};
 ghost use Rattle.recipe.specs.Reading.{fault₆};
 ghost use Rattle.shadow.specs.Shadow.{Shadowed, Cell, Kept};
 ghost use Rattle.shadow.specs.Columns.{Linked, Heights, Measured};
-ghost use Rattle.heights.specs.Search.{NextSubmodel, IsMarked, Marks, Marked, Below};
-ghost use Rattle.heights.specs.Heights.{higherOf, Enters, Grows, Decides};
+ghost use Rattle.heights.specs.Search.{NextSubmodel, IsMarked, Marks, Marked, ModelBelow};
+ghost use Rattle.heights.specs.Heights.{higherOf, SettleFromRequires, Grows, Decides};
 use names::Found;
 use shadow::cell;
 use shadow::set_cell;
@@ -73,7 +73,7 @@ fn expand(
     e: usize,
 ) -> usize
     requires { ⌜ Linked (recipeAt w (now s)) (now t) × In e (definitions (recipeAt w (now s))) × Marks (now mark) (now queue) tail ⌝ }
-    ensures { λ r. ⌜ Marked (Below (recipeAt w (now (s .entry))) e) (now (mark .entry)) (now (queue .entry)) tail (now (mark .exit)) (now (queue .exit)) r × ((x : ℕ) → Below (recipeAt w (now (s .entry))) e x → IsMarked (now (mark .exit)) x) ⌝ }
+    ensures { λ r. ⌜ Marked (ModelBelow (recipeAt w (now (s .entry))) e) (now (mark .entry)) (now (queue .entry)) tail (now (mark .exit)) (now (queue .exit)) r × ((x : ℕ) → ModelBelow (recipeAt w (now (s .entry))) e x → IsMarked (now (mark .exit)) x) ⌝ }
 {
     let mut end = tail;
     let mut p = next_submodel(s, w, t, e, e);
@@ -145,7 +145,7 @@ fn higher(a: usize, b: usize) -> usize
 
 // Settles the heights of definition d and of all that it reaches; false where one reaches itself.
 fn settle_from(s: &[u8], w: usize, t: &mut [u16], d: usize) -> bool
-    requires { ⌜ Enters (recipeAt w (now s)) (now t) d ⌝ }
+    requires { ⌜ SettleFromRequires (recipeAt w (now s)) (now t) d ⌝ }
     ensures { λ r. ⌜ Kept (recipeAt w (now (s .entry))) (6 ∷ []) (now (t .entry)) (now (t .exit)) × Decides (recipeAt w (now (s .entry))) (Grows (recipeAt w (now (s .entry))) (now (t .entry)) (now (t .exit)) d) r ⌝ }
 {
     let seen = cell(t, d, shadow::HEIGHT);

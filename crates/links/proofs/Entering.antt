@@ -77,7 +77,7 @@ unfolding keyAt tagAt kind firstField field
 key-is s p a e g h = let z : p + 1 ≡ p + 1 + 0 = omega arith in rw (h, e, g, a, ← z)
 
 -- ---- the three tables: the records from p on are left, and the first i are entered
-pub record Entering (s : Recipe) (t at₀ fields₀ keys₀ at fields keys : List ℕ) (i p : ℕ) : Type 0 where
+pub record EntryLoop (s : Recipe) (t at₀ fields₀ keys₀ at fields keys : List ℕ) (i p : ℕ) : Type 0 where
   pub walk : Walking s [] t t p
   pub left : drop i (places s) ≡ rest s p
   pub room : i * (s .width + 1) ≤ p
@@ -86,7 +86,7 @@ pub record Entering (s : Recipe) (t at₀ fields₀ keys₀ at fields keys : Lis
   pub copying : Copying s fields₀ fields i
   pub keying : Filled (λ j. keyAt s (getD (places s) j 0)) keys₀ keys i
 
-pub entering-start : (s : Recipe) (t at fields keys : List ℕ) → Entering s t at fields keys at fields keys 0 0
+pub entering-start : (s : Recipe) (t at fields keys : List ℕ) → EntryLoop s t at fields keys at fields keys 0 0
 entering-start s t at fields keys = record {
   walk = walk-start s [] t;
   left = rest-start s;
@@ -97,7 +97,7 @@ entering-start s t at fields keys = record {
   keying = filled-start _ keys;
 }
 
-module _ {s : Recipe} {t at₀ fields₀ keys₀ at fields keys : List ℕ} {i p : ℕ} (c : Shadowed s t) (g : Entering s t at₀ fields₀ keys₀ at fields keys i p) where
+module _ {s : Recipe} {t at₀ fields₀ keys₀ at fields keys : List ℕ} {i p : ℕ} (c : Shadowed s t) (g : EntryLoop s t at₀ fields₀ keys₀ at fields keys i p) where
   -- so many records fit
   pub entering-low : i < 1536
   entering-low =
@@ -113,7 +113,7 @@ module _ {s : Recipe} {t at₀ fields₀ keys₀ at fields keys : List ℕ} {i p
 
   module _ (a : 1536 ≤ length at₀) (b : 16384 ≤ length fields₀) (d : 1536 ≤ length keys₀) where
     pub entering-one : p < length (s .bytes) → {fields′ : List ℕ} {k n : ℕ} → fields′ ≡ sets fields (i * s .width) (take (s .width) (drop (p + 1) (s .bytes))) → k ≡ keyAt s p
-        → n ≡ recordLength (s .width) (getD (s .bytes) p 0) → Entering s t at₀ fields₀ keys₀ (set at i p) fields′ (set keys i k) (i + 1) (p + n)
+        → n ≡ recordLength (s .width) (getD (s .bytes) p 0) → EntryLoop s t at₀ fields₀ keys₀ (set at i p) fields′ (set keys i k) (i + 1) (p + n)
     entering-one h f e r =
         let read = readable s p (walk-place c (g .walk) h) in
         let low = entering-low in

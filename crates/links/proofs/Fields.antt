@@ -156,14 +156,14 @@ module _ (s : Recipe) (p : ℕ) (i : In p (places s)) where
           (or-cases (isMark s p) (isPort s p) h)
 
   -- ---- the reader's answer: the kind of the record, and its fields
-  abbrev Right : Record → Type 0
-  Right (Model x) = kind s p ≡ 1
-  Right (Element e) = (kind s p ≡ 2) × (e ≡ elementFields s p)
-  Right (Port e) = (kind s p ≡ 3) × (e ≡ portFields s p)
-  Right (Submodel e) = (kind s p ≡ 4) × (e ≡ submodelFields s p)
-  Right (Deletion m) = (kind s p ≡ 5) × (m ≡ markFields s p)
-  Right (Replacement m) = (ownedKind (kind s p) ≡ true) × (m ≡ markFields s p)
-  Right (ReplacedBy m) = (ownedKind (kind s p) ≡ true) × (m ≡ markFields s p)
+  abbrev ReadRight : Record → Type 0
+  ReadRight (Model x) = kind s p ≡ 1
+  ReadRight (Element e) = (kind s p ≡ 2) × (e ≡ elementFields s p)
+  ReadRight (Port e) = (kind s p ≡ 3) × (e ≡ portFields s p)
+  ReadRight (Submodel e) = (kind s p ≡ 4) × (e ≡ submodelFields s p)
+  ReadRight (Deletion m) = (kind s p ≡ 5) × (m ≡ markFields s p)
+  ReadRight (Replacement m) = (ownedKind (kind s p) ≡ true) × (m ≡ markFields s p)
+  ReadRight (ReplacedBy m) = (ownedKind (kind s p) ≡ true) × (m ≡ markFields s p)
 
   module _ {r : Record} (e : As r ≡ readingOf s p) where
     as-record : As r ≡ recordOf s p
@@ -173,13 +173,13 @@ module _ (s : Recipe) (p : ℕ) (i : In p (places s)) where
         (λ f. rw f at e)
         (λ f. let g : As r ≡ Refused = rw f at e in let z : _≡_ {A = ℕ} 0 1 = cc in absurd (omega arith))
 
-    right : (x : Record) → As r ≡ As x → Right x → Right r
+    right : (x : Record) → As r ≡ As x → ReadRight x → ReadRight r
     right x h a = let z : r ≡ x = cc in rw z a
 
-    pub read-right : Right r
+    pub read-right : ReadRight r
     unfolding recordOf isModel isElement isPort isSubmodel isDeletion isReplacement isReplacedBy
     read-right =
-        by-kind (λ k. kind s p ≡ k → Right r)
+        by-kind (λ k. kind s p ≡ k → ReadRight r)
         (λ k. right (Model (p + 1)) (rw k at as-record) k)
         (λ k. right (Element (elementFields s p)) (rw k at as-record) (k, refl))
         (λ k. right (Port (portFields s p)) (rw k at as-record) (k, refl))

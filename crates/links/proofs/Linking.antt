@@ -28,13 +28,13 @@ use Rattle.recipe.proofs.Spans.{holder-below}
 use Rattle.links.specs.declared.Answer.{Answer}
 use Rattle.links.specs.declared.Held.{Held}
 use Rattle.links.specs.Entries.{recordNamed, SoughtIn, answerOf}
-use Rattle.links.specs.Links.{Recorded, Unowned, isPointing, upperOf, lowerOf, ownOf, links, linksOf}
+use Rattle.links.specs.Links.{RecordRequires, Unowned, isPointing, upperOf, lowerOf, ownOf, links, linksOf}
 use Rattle.links.proofs.Places.{place-room}
 use Rattle.links.proofs.Lookups.{answer-some, answer-none, none-answer, element-look, submodel-look, definition-look}
 use Rattle.links.proofs.Fields.{FieldAt, sought, filled}
 
 -- a definition's number fits
-pub held-low : {s : Recipe} {at fields keys index : List ℕ} {h : Held} → Recorded s at fields keys index h → h .definition < 16384
+pub held-low : {s : Recipe} {at fields keys index : List ℕ} {h : Held} → RecordRequires s at fields keys index h → h .definition < 16384
 held-low {s} {at} {fields} {keys} {index} {h} x =
     omega (arith, x .held, holder-below s (h .place), place-room s (h .place) (x .placed), x .named .indexed .short)
 
@@ -48,7 +48,7 @@ unfolding elementIn
 element-blank s p f b = rw (b, elementIn)
 
 -- ---- a field that may be blank
-module _ {s : Recipe} {at fields keys index : List ℕ} {h : Held} (x : Recorded s at fields keys index h) (q : ℕ) (room : q + s .width ≤ length (s .bytes)) (n : isNameOrBlank (fieldAt (s .width) (s .bytes) q) ≡ true)
+module _ {s : Recipe} {at fields keys index : List ℕ} {h : Held} (x : RecordRequires s at fields keys index h) (q : ℕ) (room : q + s .width ≤ length (s .bytes)) (n : isNameOrBlank (fieldAt (s .width) (s .bytes) q) ≡ true)
     {f : List ℕ} (ef : f ≡ fieldAt (s .width) (s .bytes) q) {b : Bool} (eb : b ≡ isBlank f) where
   blank-is : isBlank (fieldAt (s .width) (s .bytes) q) ≡ b
   blank-is = sym (eb ∙ ap isBlank ef)

@@ -22,7 +22,7 @@ use Rattle.recipe.specs.Definitions.{definitions, holder, recordsOf, elements, 
 use Rattle.recipe.proofs.Rows.{first-name}
 use Rattle.links.specs.declared.Answer.{Answer}
 use Rattle.links.specs.declared.Sought.{Sought}
-use Rattle.links.specs.Entries.{tagOf, tagAt, keyOf, Named, isOf, recordNamed, SoughtIn, answerOf}
+use Rattle.links.specs.Entries.{tagOf, tagAt, keyOf, IndexRequires, isOf, recordNamed, SoughtIn, answerOf}
 use Rattle.links.proofs.Places.{first-numbered, first-same}
 use Rattle.links.proofs.Keys.{nothing, same-keys, same-fields}
 use Rattle.links.proofs.Repeats.{first-length, one-entry, entry, numbered, entry-is}
@@ -74,7 +74,7 @@ space-one p h d =
     (λ e. let z : 8 * h + 1 ≡ 8 * d + 1 = e in eq-eqb h d (omega arith))
 
 -- ---- the look-up, by what the index answers
-module _ {s : Recipe} {at fields keys index : List ℕ} (x : Named s at fields keys index) {q : Sought} (g : SoughtIn s q) {t k : ℕ} {f : List ℕ}
+module _ {s : Recipe} {at fields keys index : List ℕ} (x : IndexRequires s at fields keys index) {q : Sought} (g : SoughtIn s q) {t k : ℕ} {f : List ℕ}
     (et : t ≡ tagOf (q .kind) 0 (q .definition)) (ef : f ≡ fieldAt (s .width) (s .bytes) (q .name)) (ek : k ≡ keyOf t f) where
   -- what is sought, and the records among which it is
   abbrev answered : Answer

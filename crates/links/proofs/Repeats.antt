@@ -21,7 +21,7 @@ use Rattle.name_index.proofs.Sorted.{ordered-length}
 use Rattle.recipe.specs.Records.{Recipe, places, field, firstField, name}
 use Rattle.recipe.specs.Reading.{fault₃, repeats, fault₄}
 use Rattle.recipe.proofs.Rows.{first-name}
-use Rattle.links.specs.Entries.{tagAt, keyOf, keyAt, layout, Entered, Indexed}
+use Rattle.links.specs.Entries.{tagAt, keyOf, keyAt, layout, Entered, RecordIndex}
 use Rattle.links.proofs.Places.{first-numbered, place-room, numbered-less, less-numbered}
 use Rattle.links.proofs.Keys.{same-fields, same-keys, same-tags, sharing}
 
@@ -52,7 +52,7 @@ module _ (s : Recipe) where
   pub one-entry : fault₄ s ≡ none → (q p : ℕ) → In q (places s) → In p (places s) → tagAt s q ≡ tagAt s p → name s q ≡ name s p → q ≡ p
   one-entry h q p i j t e = three q p (λ l. absurd (clash h q p i j l t e)) (λ l. l) (λ l. absurd (clash h p q j i l (sym t) (sym e)))
 
-  module _ {at fields keys index : List ℕ} (x : Indexed s at fields keys index) where
+  module _ {at fields keys index : List ℕ} (x : RecordIndex s at fields keys index) where
     pub indexes-at : Indexes keys fields (layout (s .width)) (length at) index
     indexes-at = rw (x .listed) (x .indexes)
 

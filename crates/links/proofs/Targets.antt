@@ -25,7 +25,7 @@ use Rattle.recipe.proofs.Rows.{mark-submodel}
 use Rattle.recipe.proofs.Spans.{definition-place}
 use Rattle.shadow.specs.Shadow.{Cell, Kept}
 use Rattle.shadow.specs.Columns.{Linked}
-use Rattle.shadow.proofs.Cells.{cell-over, Row, row-none, row-set, row-left, row-room, Filling}
+use Rattle.shadow.proofs.Cells.{cell-over, RowWritten, row-none, row-set, row-left, row-room, Filling}
 use Rattle.shadow.proofs.Columns.{numbered-over}
 use Rattle.links.specs.declared.Answer.{Answer}
 use Rattle.links.specs.declared.Links.{Links}
@@ -186,7 +186,7 @@ abbrev pub linkCell : Recipe → ℕ → ℕ → ℕ
 linkCell s k = cond (eqb k 3) (upperOf s) (cond (eqb k 4) (lowerOf s) (ownOf s))
 
 pub links-row : (s : Recipe) (p : ℕ) {t t₁ t₂ t₃ : List ℕ} {l : Links} {x y z : ℕ} → l ≡ linksOf s p → p + 13 ≤ length t → t₁ ≡ set t (p + 3) x → x ≡ l .upper
-    → t₂ ≡ set t₁ (p + 4) y → y ≡ l .lower → t₃ ≡ set t₂ (p + 5) z → z ≡ l .own → Row (5 ∷ 4 ∷ 3 ∷ []) (linkCell s) p t t₃
+    → t₂ ≡ set t₁ (p + 4) y → y ≡ l .lower → t₃ ≡ set t₂ (p + 5) z → z ≡ l .own → RowWritten (5 ∷ 4 ∷ 3 ∷ []) (linkCell s) p t t₃
 unfolding linksOf
 links-row s p {t} e h e₁ ex e₂ ey e₃ ez =
     rw (e₃, e₂, e₁)
@@ -210,7 +210,7 @@ abbrev pub nameCell : Recipe → List ℕ → ℕ → ℕ → ℕ
 nameCell s t₀ k p = cond (isPointing s p) (Option·getD (namedBy s p) 0) (getD t₀ (p + 5) 0)
 
 pub target-row : {s : Recipe} {t₀ t t′ : List ℕ} {p : ℕ} → In p (places s) → Filling s (5 ∷ []) (nameCell s t₀) t₀ t p → p + 13 ≤ length t
-    → t′ ≡ cond (isPointing s p) (set t (p + 5) (Option·getD (namedBy s p) 0)) t → Row (5 ∷ []) (nameCell s t₀) p t t′
+    → t′ ≡ cond (isPointing s p) (set t (p + 5) (Option·getD (namedBy s p) 0)) t → RowWritten (5 ∷ []) (nameCell s t₀) p t t′
 target-row {s} {t₀} {t} {t′} {p} i g h e =
     by-cases (isPointing s p)
     (λ b. let z : t′ ≡ set t (p + 5) (Option·getD (namedBy s p) 0) = rw b at e in rw z (row-set 5 (row-none (nameCell s t₀) p t) (omega arith) (rw b)))

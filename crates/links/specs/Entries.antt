@@ -52,7 +52,7 @@ pub record Entered (s : Recipe) (fields keys : List ℕ) : Type 0 where
   pub keyed : (i : ℕ) → i < length (places s) → getD keys i 0 ≡ keyAt s (getD (places s) i 0)
 
 -- the places, first fields and keys, and the index of the records by key and first field, of a recipe that row 3 does not refuse
-pub record Indexed (s : Recipe) (at fields keys index : List ℕ) : Type 0 where
+pub record RecordIndex (s : Recipe) (at fields keys index : List ℕ) : Type 0 where
   pub narrow : s .width ≤ 64
   pub short : length (s .bytes) ≤ 16384
   pub formed : fault₃ s ≡ none
@@ -61,8 +61,8 @@ pub record Indexed (s : Recipe) (at fields keys index : List ℕ) : Type 0 where
   pub indexes : Indexes keys fields (layout (s .width)) (length (places s)) index
 
 -- that of a recipe that row 4 does not refuse either
-pub record Named (s : Recipe) (at fields keys index : List ℕ) : Type 0 where
-  pub indexed : Indexed s at fields keys index
+pub record IndexRequires (s : Recipe) (at fields keys index : List ℕ) : Type 0 where
+  pub indexed : RecordIndex s at fields keys index
   pub once : fault₄ s ≡ none
 
 -- a record of kind k, of definition d unless it is a model

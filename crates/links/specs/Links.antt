@@ -16,15 +16,15 @@ use Rattle.shadow.specs.Shadow.{Cell}
 use Rattle.shadow.specs.Columns.{Numbered}
 use Rattle.links.specs.declared.Held.{Held}
 use Rattle.links.specs.declared.Links.{Links}
-use Rattle.links.specs.Entries.{Named}
+use Rattle.links.specs.Entries.{IndexRequires}
 
 -- rows 4 and 5, which look at what the records name
 abbrev pub declaredRows : Recipe → List Row
 declaredRows s = row 4 (fault₄ s) ∷ row 5 (fault₅ s) ∷ []
 
 -- a record and its definition, over the index
-pub record Recorded (s : Recipe) (at fields keys index : List ℕ) (h : Held) : Type 0 where
-  pub named : Named s at fields keys index
+pub record RecordRequires (s : Recipe) (at fields keys index : List ℕ) (h : Held) : Type 0 where
+  pub named : IndexRequires s at fields keys index
   pub placed : In (h .place) (places s)
   pub held : h .definition ≡ holder s (h .place)
 

@@ -16,8 +16,8 @@ ghost use Rattle.recipe.specs.Reading.{fault₃, fault₄, isParentFault, fault
 ghost use Rattle.recipe.specs.Fields.{elementFields, portFields, submodelFields, markFields};
 ghost use Rattle.shadow.specs.Shadow.{Cell};
 ghost use Rattle.shadow.specs.Columns.{Numbered, Linked};
-ghost use Rattle.links.specs.Entries.{tagOf, keyOf, keyAt, Entered, Indexed, Named, recordNamed, SoughtIn, answerOf};
-ghost use Rattle.links.specs.Links.{declaredRows, Recorded, Unowned, isPointing, linksOf, ownOf, Pointed};
+ghost use Rattle.links.specs.Entries.{tagOf, keyOf, keyAt, Entered, RecordIndex, IndexRequires, recordNamed, SoughtIn, answerOf};
+ghost use Rattle.links.specs.Links.{declaredRows, RecordRequires, Unowned, isPointing, linksOf, ownOf, Pointed};
 use name_index::Layout;
 use names::Found;
 use names::Refusal;
@@ -153,7 +153,7 @@ fn index_names(
     index: &mut [u16],
 ) -> usize
     requires { ⌜ Numbered (recipeAt w (now s)) (now t) × ((fault₃ (recipeAt w (now s)) ≡ none) × ((1536 ≤ length (now at)) × ((16384 ≤ length (now fields)) × ((1536 ≤ length (now keys)) × (1536 ≤ length (now index)))))) ⌝ }
-    ensures { λ r. ⌜ (r ≤ 1536) × Indexed (recipeAt w (now (s .entry))) (take r (now (at .exit))) (now (fields .exit)) (now (keys .exit)) (now (index .exit)) ⌝ }
+    ensures { λ r. ⌜ (r ≤ 1536) × RecordIndex (recipeAt w (now (s .entry))) (take r (now (at .exit))) (now (fields .exit)) (now (keys .exit)) (now (index .exit)) ⌝ }
 {
     let n = enter_records(s, w, t, at, fields, keys);
     let l = Layout {
@@ -174,7 +174,7 @@ fn first_repeated(
     keys: &[u32],
     index: &[u16],
 ) -> Found
-    requires { ⌜ Indexed (recipeAt w (now s)) (now at) (now fields) (now keys) (now index) ⌝ }
+    requires { ⌜ RecordIndex (recipeAt w (now s)) (now at) (now fields) (now keys) (now index) ⌝ }
     ensures { λ r. ⌜ r ≡ foundOf (fault₄ (recipeAt w (now (s .entry)))) ⌝ }
 {
     let l = Layout {
@@ -198,7 +198,7 @@ fn find_record(
     index: &[u16],
     q: Sought,
 ) -> Answer
-    requires { ⌜ Named (recipeAt w (now s)) (now at) (now fields) (now keys) (now index) × SoughtIn (recipeAt w (now s)) q ⌝ }
+    requires { ⌜ IndexRequires (recipeAt w (now s)) (now at) (now fields) (now keys) (now index) × SoughtIn (recipeAt w (now s)) q ⌝ }
     ensures { λ r. ⌜ r ≡ answerOf (recordNamed (recipeAt w (now (s .entry))) (q .kind) (q .definition) (text (fieldAt w (now (s .entry)) (q .name)))) ⌝ }
 {
     let l = Layout {
@@ -238,7 +238,7 @@ fn find_element(
     h: Held,
     q: usize,
 ) -> Answer
-    requires { ⌜ Recorded (recipeAt w (now s)) (now at) (now fields) (now keys) (now index) h × ((q + w ≤ length (now s)) × (isNameOrBlank (fieldAt w (now s) q) ≡ true)) ⌝ }
+    requires { ⌜ RecordRequires (recipeAt w (now s)) (now at) (now fields) (now keys) (now index) h × ((q + w ≤ length (now s)) × (isNameOrBlank (fieldAt w (now s) q) ≡ true)) ⌝ }
     ensures { λ r. ⌜ r ≡ answerOf (elementIn (recipeAt w (now (s .entry))) (h .place) (fieldAt w (now (s .entry)) q)) ⌝ }
 {
     if names::is_blank(field(s, q, w)) {
@@ -279,7 +279,7 @@ fn link_element(
     h: Held,
     e: ElementFields,
 ) -> Links
-    requires { ⌜ Recorded (recipeAt w (now s)) (now at) (now fields) (now keys) (now index) h × ((kind (recipeAt w (now s)) (h .place) ≡ 2) × (e ≡ elementFields (recipeAt w (now s)) (h .place))) ⌝ }
+    requires { ⌜ RecordRequires (recipeAt w (now s)) (now at) (now fields) (now keys) (now index) h × ((kind (recipeAt w (now s)) (h .place) ≡ 2) × (e ≡ elementFields (recipeAt w (now s)) (h .place))) ⌝ }
     ensures { λ r. ⌜ r ≡ linksOf (recipeAt w (now (s .entry))) (h .place) ⌝ }
 {
     let parent = find_element(s, w, at, fields, keys, index, h, e.parent);
@@ -303,7 +303,7 @@ fn link_submodel(
     h: Held,
     e: SubmodelFields,
 ) -> Links
-    requires { ⌜ Recorded (recipeAt w (now s)) (now at) (now fields) (now keys) (now index) h × ((kind (recipeAt w (now s)) (h .place) ≡ 4) × (e ≡ submodelFields (recipeAt w (now s)) (h .place))) ⌝ }
+    requires { ⌜ RecordRequires (recipeAt w (now s)) (now at) (now fields) (now keys) (now index) h × ((kind (recipeAt w (now s)) (h .place) ≡ 4) × (e ≡ submodelFields (recipeAt w (now s)) (h .place))) ⌝ }
     ensures { λ r. ⌜ r ≡ linksOf (recipeAt w (now (s .entry))) (h .place) ⌝ }
 {
     let sought = Sought {
@@ -331,7 +331,7 @@ fn link_own_port(
     h: Held,
     e: PortFields,
 ) -> Links
-    requires { ⌜ Recorded (recipeAt w (now s)) (now at) (now fields) (now keys) (now index) h × ((kind (recipeAt w (now s)) (h .place) ≡ 3) × ((e ≡ portFields (recipeAt w (now s)) (h .place)) × (isBlank (submodelField (recipeAt w (now s)) (h .place)) ≡ true))) ⌝ }
+    requires { ⌜ RecordRequires (recipeAt w (now s)) (now at) (now fields) (now keys) (now index) h × ((kind (recipeAt w (now s)) (h .place) ≡ 3) × ((e ≡ portFields (recipeAt w (now s)) (h .place)) × (isBlank (submodelField (recipeAt w (now s)) (h .place)) ≡ true))) ⌝ }
     ensures { λ r. ⌜ r ≡ linksOf (recipeAt w (now (s .entry))) (h .place) ⌝ }
 {
     let target = e.target;
@@ -368,7 +368,7 @@ fn link_pointer(
     h: Held,
     q: usize,
 ) -> Links
-    requires { ⌜ Recorded (recipeAt w (now s)) (now at) (now fields) (now keys) (now index) h × Unowned (recipeAt w (now s)) (h .place) q ⌝ }
+    requires { ⌜ RecordRequires (recipeAt w (now s)) (now at) (now fields) (now keys) (now index) h × Unowned (recipeAt w (now s)) (h .place) q ⌝ }
     ensures { λ r. ⌜ r ≡ linksOf (recipeAt w (now (s .entry))) (h .place) ⌝ }
 {
     let sought = Sought {
@@ -396,7 +396,7 @@ fn link_port(
     h: Held,
     e: PortFields,
 ) -> Links
-    requires { ⌜ Recorded (recipeAt w (now s)) (now at) (now fields) (now keys) (now index) h × ((kind (recipeAt w (now s)) (h .place) ≡ 3) × (e ≡ portFields (recipeAt w (now s)) (h .place))) ⌝ }
+    requires { ⌜ RecordRequires (recipeAt w (now s)) (now at) (now fields) (now keys) (now index) h × ((kind (recipeAt w (now s)) (h .place) ≡ 3) × (e ≡ portFields (recipeAt w (now s)) (h .place))) ⌝ }
     ensures { λ r. ⌜ r ≡ linksOf (recipeAt w (now (s .entry))) (h .place) ⌝ }
 {
     if names::is_blank(field(s, e.submodel, w)) {
@@ -416,7 +416,7 @@ fn link_owned(
     h: Held,
     m: Mark,
 ) -> Links
-    requires { ⌜ Recorded (recipeAt w (now s)) (now at) (now fields) (now keys) (now index) h × ((ownedKind (kind (recipeAt w (now s)) (h .place)) ≡ true) × (m ≡ markFields (recipeAt w (now s)) (h .place))) ⌝ }
+    requires { ⌜ RecordRequires (recipeAt w (now s)) (now at) (now fields) (now keys) (now index) h × ((ownedKind (kind (recipeAt w (now s)) (h .place)) ≡ true) × (m ≡ markFields (recipeAt w (now s)) (h .place))) ⌝ }
     ensures { λ r. ⌜ r ≡ linksOf (recipeAt w (now (s .entry))) (h .place) ⌝ }
 {
     let owner = find_element(s, w, at, fields, keys, index, h, m.owner);
@@ -444,7 +444,7 @@ fn link_record(
     index: &[u16],
     h: Held,
 ) -> Links
-    requires { ⌜ Recorded (recipeAt w (now s)) (now at) (now fields) (now keys) (now index) h ⌝ }
+    requires { ⌜ RecordRequires (recipeAt w (now s)) (now at) (now fields) (now keys) (now index) h ⌝ }
     ensures { λ r. ⌜ r ≡ linksOf (recipeAt w (now (s .entry))) (h .place) ⌝ }
 {
     let nothing = Links {
@@ -477,7 +477,7 @@ fn link_records(
     index: &[u16],
     t: &mut [u16],
 ) -> Found
-    requires { ⌜ Named (recipeAt w (now s)) (now at) (now fields) (now keys) (now index) × Numbered (recipeAt w (now s)) (now t) ⌝ }
+    requires { ⌜ IndexRequires (recipeAt w (now s)) (now at) (now fields) (now keys) (now index) × Numbered (recipeAt w (now s)) (now t) ⌝ }
     ensures { λ r. ⌜ (r ≡ foundOf (fault₅ (recipeAt w (now (s .entry))))) × (r ≡ Nothing → Pointed (recipeAt w (now (s .entry))) (now (t .exit)) × Cell (places (recipeAt w (now (s .entry)))) 5 (ownOf (recipeAt w (now (s .entry)))) (now (t .exit))) ⌝ }
 {
     let mut p = 0;
@@ -509,7 +509,7 @@ fn name_target(
     t: &mut [u16],
     p: usize,
 )
-    requires { ⌜ Named (recipeAt w (now s)) (now at) (now fields) (now keys) (now index) × (Pointed (recipeAt w (now s)) (now t) × In p (places (recipeAt w (now s)))) ⌝ }
+    requires { ⌜ IndexRequires (recipeAt w (now s)) (now at) (now fields) (now keys) (now index) × (Pointed (recipeAt w (now s)) (now t) × In p (places (recipeAt w (now s)))) ⌝ }
     ensures { λ _. ⌜ now (t .exit) ≡ cond (isPointing (recipeAt w (now (s .entry))) p) (set (now (t .entry)) (p + 5) (Option·getD (namedBy (recipeAt w (now (s .entry))) p) 0)) (now (t .entry)) ⌝ }
 {
     let k = s[p];
@@ -540,7 +540,7 @@ fn name_targets(
     index: &[u16],
     t: &mut [u16],
 )
-    requires { ⌜ Named (recipeAt w (now s)) (now at) (now fields) (now keys) (now index) × (Pointed (recipeAt w (now s)) (now t) × Cell (places (recipeAt w (now s))) 5 (ownOf (recipeAt w (now s))) (now t)) ⌝ }
+    requires { ⌜ IndexRequires (recipeAt w (now s)) (now at) (now fields) (now keys) (now index) × (Pointed (recipeAt w (now s)) (now t) × Cell (places (recipeAt w (now s))) 5 (ownOf (recipeAt w (now s))) (now t)) ⌝ }
     ensures { λ _. ⌜ Linked (recipeAt w (now (s .entry))) (now (t .exit)) ⌝ }
 {
     let mut p = 0;
@@ -560,7 +560,7 @@ fn judge_names(
     index: &[u16],
     t: &mut [u16],
 ) -> Refusal
-    requires { ⌜ Indexed (recipeAt w (now s)) (now at) (now fields) (now keys) (now index) × Numbered (recipeAt w (now s)) (now t) ⌝ }
+    requires { ⌜ RecordIndex (recipeAt w (now s)) (now at) (now fields) (now keys) (now index) × Numbered (recipeAt w (now s)) (now t) ⌝ }
     ensures { λ r. ⌜ (r ≡ handed (judged (declaredRows (recipeAt w (now (s .entry)))))) × (r .number ≡ 0 → Linked (recipeAt w (now (s .entry))) (now (t .exit))) ⌝ }
 {
     if let Found::At(p) = first_repeated(s, w, at, fields, keys, index) {

@@ -27,13 +27,13 @@ use Rattle.tree.proofs.Instances.{elements-most}
 use Rattle.tree.proofs.Nodes.{in-tree}
 use Rattle.tree.proofs.Numbering.{number-few, number-inj, run-length, tree-numbers}
 use Rattle.tree.proofs.Resolving.{not-zero}
-use Rattle.marks.specs.Cells.{Known}
+use Rattle.marks.specs.Cells.{ElementsRequires}
 use Rattle.marks.specs.Composed.{ElementRows}
 use Rattle.marks.specs.Gone.{Element, Numbers}
 use Rattle.marks.specs.Listing.{Only}
 
 -- what the passes over marks require is enough for those over elements
-pub known : {s : Recipe} {t inst : List ℕ} {n : ℕ} → Targeted s t inst n → Known s t
+pub known : {s : Recipe} {t inst : List ℕ} {n : ℕ} → Targeted s t inst n → ElementsRequires s t
 known T = record { aimed = T .aimed; row₇ = T .planted .row₇ }
 
 -- ---- which element has the number e
@@ -110,7 +110,7 @@ module _ (s : Recipe) (x : Node) (f : List ℕ) {m : ℕ} (e : m ≡ Option·get
       (λ k n. ap (Option·map (node (x .path))) (n ∙ ap some (sym (e ∙ ap (λ (o : Option ℕ). Option·getD o 0) n))))
 
 -- ---- two elements of one instance, by the cells of their records
-module _ {s : Recipe} {t : List ℕ} (K : Known s t) where
+module _ {s : Recipe} {t : List ℕ} (K : ElementsRequires s t) where
   pub element-room : (x : Node) → In x (treeElements s) → x .place + 13 ≤ length t
   element-room x i = record-room (K .aimed .measured .linked .numbered .shadowed) (x .place) (element-held s x i .placed)
 
@@ -170,17 +170,17 @@ pub below-more : {m e : ℕ} → m < e + 1 → (m ≡ e → ⊥) → m < e
 below-more a b = omega arith
 
 -- a pass over the elements by their numbers, that fills column k of those among xs with what f gives
-abbrev pub Filled : Recipe → List Node → ℕ → (Node → ℕ) → ℕ → List ℕ → Type 0
-Filled s xs k f e el = (x : Node) → In x xs → number s x < e → getD el (5 * number s x + k) 0 ≡ f x
+abbrev pub ColumnFilled : Recipe → List Node → ℕ → (Node → ℕ) → ℕ → List ℕ → Type 0
+ColumnFilled s xs k f e el = (x : Node) → In x xs → number s x < e → getD el (5 * number s x + k) 0 ≡ f x
 
 module _ (s : Recipe) (xs : List Node) (k : ℕ) (f : Node → ℕ) (el : List ℕ) where
-  pub filled-start : Filled s xs k f 0 el
+  pub filled-start : ColumnFilled s xs k f 0 el
   filled-start x i l = absurd (omega arith)
 
-  pub filled-skip : (e : ℕ) → ((x : Node) → In x xs → number s x ≡ e → ⊥) → Filled s xs k f e el → Filled s xs k f (e + 1) el
+  pub filled-skip : (e : ℕ) → ((x : Node) → In x xs → number s x ≡ e → ⊥) → ColumnFilled s xs k f e el → ColumnFilled s xs k f (e + 1) el
   filled-skip e h g x i l = g x i (below-more l (h x i))
 
-  pub filled-one : (e v : ℕ) → 5 * e + k < length el → ((x : Node) → In x xs → number s x ≡ e → v ≡ f x) → Filled s xs k f e el → Filled s xs k f (e + 1) (set el (5 * e + k) v)
+  pub filled-one : (e v : ℕ) → 5 * e + k < length el → ((x : Node) → In x xs → number s x ≡ e → v ≡ f x) → ColumnFilled s xs k f e el → ColumnFilled s xs k f (e + 1) (set el (5 * e + k) v)
   filled-one e v room h g x i l =
       by-cases (eqb (number s x) e)
       (λ b.
@@ -193,5 +193,5 @@ module _ (s : Recipe) (xs : List Node) (k : ℕ) (f : Node → ℕ) (el : List �
       other : (y : Node) → 5 * number s y + k ≡ 5 * e + k → number s y ≡ e
       other y z = omega arith
 
-  pub filled-end : (e : ℕ) → ((x : Node) → In x xs → number s x < e) → Filled s xs k f e el → (x : Node) → In x xs → getD el (5 * number s x + k) 0 ≡ f x
+  pub filled-end : (e : ℕ) → ((x : Node) → In x xs → number s x < e) → ColumnFilled s xs k f e el → (x : Node) → In x xs → getD el (5 * number s x + k) 0 ≡ f x
   filled-end e h g x i = g x i (h x i)

@@ -22,7 +22,7 @@ use Rattle.tree.specs.Tree.{Node, node, parentOf, sameNode, treeElements}
 use Rattle.tree.proofs.Instances.{depth}
 use Rattle.tree.proofs.Nodes.{nodes-in, parent-in}
 use Rattle.tree.proofs.Numbering.{number-few}
-use Rattle.marks.specs.Cells.{AllStamped, Known, aimNumber, goneCell, isSet, markCell, ownerCell, portCell, stamps}
+use Rattle.marks.specs.Cells.{AllStamped, ElementsRequires, aimNumber, goneCell, isSet, markCell, ownerCell, portCell, stamps}
 use Rattle.marks.specs.Composed.{Gones}
 use Rattle.marks.specs.Gone.{Element, GoneAt}
 use Rattle.marks.specs.Marks.{aimsAt, from, isGone, isMarkedGone, owner, ownsBy, removes, treeMarks, treePointers}
@@ -154,7 +154,7 @@ module _ (s : Recipe) (h₅ : fault₅ s ≡ none) (h₇ : fault₇ s ≡ none) 
       ∙ marks-any (λ r. removes s x r || ownsBy s x r)
 
 -- ---- an element and its parent
-module _ {s : Recipe} {t cells : List ℕ} (K : Known s t) (S : AllStamped s cells) {e q : ℕ} (E : Element s e q) where
+module _ {s : Recipe} {t cells : List ℕ} (K : ElementsRequires s t) (S : AllStamped s cells) {e q : ℕ} (E : Element s e q) where
   abbrev x : Node
   x = E .it
 

@@ -10,7 +10,7 @@ use Rattle.recipe.specs.Records.{Recipe}
 use Rattle.tree.specs.Faults.{fault₁₀}
 use Rattle.tree.specs.Planted.{Targeted}
 use Rattle.tree.specs.Tree.{treeElements}
-use Rattle.marks.specs.Cells.{Ready}
+use Rattle.marks.specs.Cells.{MarksRequires}
 use Rattle.marks.specs.Composed.{Composed, ElementRows, Ends, Gones, Nexts}
 use Rattle.marks.specs.Faults.{fault₉, fault₁₁, fault₁₂}
 use Rattle.marks.specs.Listing.{Listed, Only}
@@ -19,7 +19,7 @@ use Rattle.marks.proofs.Elements.{column-over, elements-few, rows-over}
 use Rattle.marks.proofs.Listing.{listed-rows}
 
 module _ {s : Recipe} {t inst : List ℕ} {n : ℕ} (T : Targeted s t inst n) where
-  pub ready : Ready s t inst
+  pub ready : MarksRequires s t inst
   ready = rw (T .planted .rows .count) at T
 
   module _ (el₀ el₁ : List ℕ) (room : 5 * 1024 ≤ length el₀) (long : length el₁ ≡ length el₀) (L : Listed s (λ x. Unit {0}) el₁) where

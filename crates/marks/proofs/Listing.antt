@@ -18,7 +18,7 @@ use Rattle.shadow.specs.Columns.{order}
 use Rattle.tree.specs.Numbers.{number}
 use Rattle.tree.specs.Tree.{Node, instances, node, nodes, treeElements}
 use Rattle.tree.proofs.Numbering.{number-few, number-inj}
-use Rattle.marks.specs.Cells.{Ready}
+use Rattle.marks.specs.Cells.{MarksRequires}
 use Rattle.marks.specs.Composed.{ElementRows}
 use Rattle.marks.specs.Listing.{Entry, Listed}
 use Rattle.marks.proofs.Threads.{Along, Done, Holds, begin, finish, path, this-in, turn}
@@ -77,11 +77,11 @@ module _ (s : Recipe) where
   listed-rows el l L = record { room = l; records = λ x i. L x i tt .at; within = λ x i. L x i tt .few; paths = λ x i. L x i tt .path-is }
 
 -- the elements of one record, along the instances
-abbrev pub Entering : Recipe → ℕ → List ℕ → ℕ → Type 0
-Entering s p el v = Along s p (λ D. Listed s D el) v
+abbrev pub ListLoop : Recipe → ℕ → List ℕ → ℕ → Type 0
+ListLoop s p el v = Along s p (λ D. Listed s D el) v
 
 -- ---- an element record in one instance
-module _ {s : Recipe} {t inst : List ℕ} (T : Ready s t inst) (p : ℕ) (here : In p (places s)) (sort : isElement s p ≡ true) where
+module _ {s : Recipe} {t inst : List ℕ} (T : MarksRequires s t inst) (p : ℕ) (here : In p (places s)) (sort : isElement s p ≡ true) where
   module _ (i : ℕ) {f o : ℕ} (h : Holds s (holder s p) i) (rf : f ≡ getD inst (6 * i + 2) 0) (ro : o ≡ getD t (p + 1) 0) where
     abbrev this : Node
     this = node (path s i) p
@@ -124,15 +124,15 @@ module _ {s : Recipe} {t inst : List ℕ} (T : Ready s t inst) (p : ℕ) (here :
         })
 
   -- ---- along the instances
-  pub list-start : {h v : ℕ} (el : List ℕ) → h ≡ getD t (p + 0) 0 → v ≡ getD t (h + 8) 0 → Listed s (λ q. q .place < p) el → Entering s p el v
+  pub list-start : {h v : ℕ} (el : List ℕ) → h ≡ getD t (p + 0) 0 → v ≡ getD t (h + 8) 0 → Listed s (λ q. q .place < p) el → ListLoop s p el v
   list-start el a b L = begin T (isElement s) (λ D. Listed s D el) (listed-same s el) p here a b L
 
   pub list-turn : {v f o x : ℕ} (el : List ℕ) {el′ : List ℕ} → f ≡ getD inst (6 * (v - 1) + 2) 0 → o ≡ getD t (p + 1) 0 → 5 * 1024 ≤ length el
-      → el′ ≡ entered el (f + o) p (v - 1) → Entering s p el v → (v ≡ 0 → ⊥) → x ≡ getD inst (6 * (v - 1) + 5) 0 → Entering s p el′ x
+      → el′ ≡ entered el (f + o) p (v - 1) → ListLoop s p el v → (v ≡ 0 → ⊥) → x ≡ getD inst (6 * (v - 1) + 5) 0 → ListLoop s p el′ x
   list-turn {v} {f} {o} el rf ro l r a n y =
       rw r
       (turn T (isElement s) (λ D. Listed s D (entered el (f + o) p (v - 1))) (listed-same s (entered el (f + o) p (v - 1))) p here (λ D. Listed s D el) a n y
       (λ L. listed-one (v - 1) (a .0 .holds n) rf ro el (Done s p (v - 1)) l L))
 
-  pub list-end : {v : ℕ} (el : List ℕ) → Entering s p el v → v ≡ 0 → Listed s (λ q. q .place < next s p) el
+  pub list-end : {v : ℕ} (el : List ℕ) → ListLoop s p el v → v ≡ 0 → Listed s (λ q. q .place < next s p) el
   list-end el a z = finish T (isElement s) (λ D. Listed s D el) (listed-same s el) p here a z

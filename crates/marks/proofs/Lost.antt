@@ -12,14 +12,14 @@ use Rattle.recipe.specs.Records.{Recipe, isMark, isPointer, isPort, isReplacedB
 use Rattle.recipe.proofs.Rows.{replaced-by-mark}
 use Rattle.tree.specs.Tree.{Node, node}
 use Rattle.tree.proofs.ByRecord.{by-none}
-use Rattle.marks.specs.Cells.{Ready}
+use Rattle.marks.specs.Cells.{MarksRequires}
 use Rattle.marks.specs.Composed.{Gones}
 use Rattle.marks.specs.Faults.{aimsAtGone}
 use Rattle.marks.specs.Marks.{aim, from, isGone}
 use Rattle.marks.proofs.Marks.{aim-in, aim-some}
 use Rattle.marks.proofs.Pass.{not-model}
 use Rattle.marks.proofs.Relations.{aimed-is}
-use Rattle.marks.proofs.Threads.{Seeking, found-one, path, seek-end, seek-turn, this-in}
+use Rattle.marks.proofs.Threads.{SeekLoop, found-one, path, seek-end, seek-turn, this-in}
 use Rattle.marks.proofs.Turn.{Read, aim-eq, aim-few, it-in}
 
 -- a mark has a target that is gone
@@ -31,11 +31,11 @@ pub not-lost : (s : Recipe) (p : ℕ) → isReplacedBy s p ≡ false → aimsAtG
 unfolding aimsAtGone
 not-lost s p k = by-none s (isReplacedBy s) p k (lost s)
 
-module _ {s : Recipe} {t inst : List ℕ} (T : Ready s t inst) (p : ℕ) (here : In p (places s)) (by : isReplacedBy s p ≡ true) where
+module _ {s : Recipe} {t inst : List ℕ} (T : MarksRequires s t inst) (p : ℕ) (here : In p (places s)) (by : isReplacedBy s p ≡ true) where
   sort : isPointer s p ≡ true
   sort = or-left (isMark s p) (isPort s p) (replaced-by-mark s p by)
 
-  module _ {v e f : ℕ} (a : Seeking s (isReplacedBy s) p (lost s) v) (n : v ≡ 0 → ⊥) (re : e ≡ getD t (p + 9) 0) (rf : f ≡ getD inst (6 * (v - 1) + 2) 0) where
+  module _ {v e f : ℕ} (a : SeekLoop s (isReplacedBy s) p (lost s) v) (n : v ≡ 0 → ⊥) (re : e ≡ getD t (p + 9) 0) (rf : f ≡ getD inst (6 * (v - 1) + 2) 0) where
     abbrev this : Node
     this = node (path s (v - 1)) p
 
@@ -60,11 +60,11 @@ module _ {s : Recipe} {t inst : List ℕ} (T : Ready s t inst) (p : ℕ) (here :
           sym (found-one s (isReplacedBy s) p (lost s) this (this-in s (isReplacedBy s) p (v - 1) here (not-model s p sort) by (a .0 .holds n)) refl
           (by-cases (lost s this) (λ h. h) (λ h. absurd (z (cell-is ∙ rw h)))))
 
-      pub lost-turn : {x : ℕ} → b ≡ 0 → x ≡ getD inst (6 * (v - 1) + 5) 0 → Seeking s (isReplacedBy s) p (lost s) x
+      pub lost-turn : {x : ℕ} → b ≡ 0 → x ≡ getD inst (6 * (v - 1) + 5) 0 → SeekLoop s (isReplacedBy s) p (lost s) x
       lost-turn z y =
           seek-turn T (isReplacedBy s) p here (lost s) a n y
           (by-cases (lost s this) (λ h. let q : b ≡ 1 = cell-is ∙ rw h in absurd (omega arith)) (λ h. h))
 
-  pub lost-end : {v : ℕ} → Seeking s (isReplacedBy s) p (lost s) v → v ≡ 0 → false ≡ aimsAtGone s p
+  pub lost-end : {v : ℕ} → SeekLoop s (isReplacedBy s) p (lost s) v → v ≡ 0 → false ≡ aimsAtGone s p
   unfolding aimsAtGone
   lost-end a z = sym (seek-end T (isReplacedBy s) p here (lost s) a z)

@@ -24,7 +24,7 @@ use Rattle.tree.specs.Numbers.{number}
 use Rattle.tree.specs.Tree.{Node, node, referenceOf, treeElements}
 use Rattle.tree.proofs.Nodes.{reference-in}
 use Rattle.tree.proofs.Numbering.{number-few, number-inj}
-use Rattle.marks.specs.Cells.{Known}
+use Rattle.marks.specs.Cells.{ElementsRequires}
 use Rattle.marks.specs.Composed.{ElementRows, Gones, Nexts, endOf}
 use Rattle.marks.specs.Faults.{fault₁₂, isReference, isReferenceFault}
 use Rattle.marks.specs.Gone.{Element, Numbers}
@@ -50,7 +50,7 @@ module _ (s : Recipe) where
   reference-is p = refl
 
 -- ---- the end of the chain from a reference
-module _ {s : Recipe} {t el : List ℕ} (K : Known s t) (R : ElementRows s el) (G : Nexts s el) {e p : ℕ} (E : Element s e p) where
+module _ {s : Recipe} {t el : List ℕ} (K : ElementsRequires s t) (R : ElementRows s el) (G : Nexts s el) {e p : ℕ} (E : Element s e p) where
   abbrev x : Node
   x = E .it
 
@@ -221,7 +221,7 @@ module _ {s : Recipe} {e b : ℕ} (L : Lowest s e b) where
         (λ p i. by-cases (faulty p) (λ h. absurd (omega (arith, at-least p h, place-low s p i))) (λ h. h))
 
 -- ---- the turn of the pass at the element of number e
-pub referring : {s : Recipe} {t el : List ℕ} → Known s t → ElementRows s el → Gones s el → Referring s el
+pub referring : {s : Recipe} {t el : List ℕ} → ElementsRequires s t → ElementRows s el → Gones s el → Referring s el
 referring K R G = record {
   narrow = K .aimed .measured .linked .numbered .shadowed .narrow;
   short = K .aimed .measured .linked .numbered .shadowed .short;

@@ -23,7 +23,7 @@ use Rattle.tree.specs.Numbers.{number}
 use Rattle.tree.specs.Tree.{Node, node, nodes, treeElements}
 use Rattle.tree.proofs.Nodes.{node-same, nodes-in, same-node}
 use Rattle.tree.proofs.Numbering.{number-inj}
-use Rattle.marks.specs.Cells.{Ready, aimNumber}
+use Rattle.marks.specs.Cells.{MarksRequires, aimNumber}
 use Rattle.marks.specs.Composed.{Nexts}
 use Rattle.marks.specs.Faults.{fault₉}
 use Rattle.marks.specs.Listing.{Only}
@@ -53,13 +53,13 @@ went-none s el n = record { has = λ q i a d. absurd (omega arith); others = λ 
 
 module _ (s : Recipe) (h₄ : fault₄ s ≡ none) (h₅ : fault₅ s ≡ none) (h₇ : fault₇ s ≡ none) (h₈ : fault₈ s ≡ none) (h₉ : fault₉ s ≡ none) where
   -- a mark's target, by its number
-  record Aimed (r : Node) : Type 0 where
+  record AimedAt (r : Node) : Type 0 where
     x : Node
     is : aim s r ≡ some x
     tree : In x (treeElements s)
     num : aimNumber s r ≡ number s x
 
-  the-aim : (r : Node) → In r (treeMarks s) → Aimed r
+  the-aim : (r : Node) → In r (treeMarks s) → AimedAt r
   the-aim r i =
       let a = aim-some s h₈ r (mark-pointer s r i) in
       let y = from (r .path) (a .0) in
@@ -173,7 +173,7 @@ abbrev pub Stepped : Recipe → ℕ → List ℕ → ℕ → Type 0
 Stepped s p el v = Along s p (λ D. Went s D el) v
 
 -- ---- one record, along the instances of its definition
-module _ {s : Recipe} {t inst : List ℕ} (T : Ready s t inst) (h₉ : fault₉ s ≡ none) (p : ℕ) (here : In p (places s)) (st : isOwned s p ≡ true) where
+module _ {s : Recipe} {t inst : List ℕ} (T : MarksRequires s t inst) (h₉ : fault₉ s ≡ none) (p : ℕ) (here : In p (places s)) (st : isOwned s p ≡ true) where
   is-step-mark : isMark s p ≡ true
   is-step-mark = ⊎-elim (replacement-mark s p) (replaced-by-mark s p) (or-cases (isReplacement s p) (isReplacedBy s p) st)
 

@@ -24,7 +24,7 @@ use Rattle.tree.specs.Planted.{instanceFrom}
 use Rattle.tree.specs.Tree.{Node, definitionAt, instances, node, nodes}
 use Rattle.tree.proofs.ByRecord.{node-in}
 use Rattle.tree.proofs.Nodes.{in-nodes, node-eq, node-holder, node-place}
-use Rattle.marks.specs.Cells.{Ready}
+use Rattle.marks.specs.Cells.{MarksRequires}
 
 -- so many instances are passed
 abbrev pub past : Recipe → ℕ → ℕ
@@ -94,7 +94,7 @@ abbrev pub Done : Recipe → ℕ → ℕ → Node → Type 0
 Done s p i q = (q .place < p) ⊎ ((q .place ≡ p) × ((m : ℕ) × ((m < i) × (q .path ≡ path s m))))
 
 -- ---- the thread of the record at p
-module _ {s : Recipe} {t inst : List ℕ} (T : Ready s t inst) (p : ℕ) (here : In p (places s)) where
+module _ {s : Recipe} {t inst : List ℕ} (T : MarksRequires s t inst) (p : ℕ) (here : In p (places s)) where
   pub thread-start : {h v : ℕ} → h ≡ getD t (p + 0) 0 → v ≡ getD t (h + 8) 0 → Thread s (holder s p) 0 v
   thread-start {h} {v} a b =
       let q : h ≡ holder s p = a ∙ T .planted .measured .linked .numbered .held p here in
@@ -194,7 +194,7 @@ module _ (s : Recipe) (t : ℕ → Bool) (W : (Node → Type 0) → Type 0)
 abbrev pub Along : Recipe → ℕ → ((Node → Type 0) → Type 0) → ℕ → Type 0
 Along s p W v = On s (holder s p) v × W (Done s p (past s v))
 
-module _ {s : Recipe} {t inst : List ℕ} (T : Ready s t inst) (test : ℕ → Bool) (W : (Node → Type 0) → Type 0)
+module _ {s : Recipe} {t inst : List ℕ} (T : MarksRequires s t inst) (test : ℕ → Bool) (W : (Node → Type 0) → Type 0)
     (same : (D E : Node → Type 0) → ((q : Node) → In q (nodes s test) → E q → D q) → ((q : Node) → In q (nodes s test) → D q → E q) → W D → W E)
     (p : ℕ) (here : In p (places s)) where
   pub begin : {h v : ℕ} → h ≡ getD t (p + 0) 0 → v ≡ getD t (h + 8) 0 → W (λ q. q .place < p) → Along s p W v
@@ -221,25 +221,25 @@ along-all s t W same p l w =
 abbrev Missed : Recipe → (ℕ → Bool) → ℕ → (Node → Bool) → (Node → Type 0) → Type 0
 Missed s t p f D = (q : Node) → In q (nodes s t) → q .place ≡ p → D q → f q ≡ false
 
-abbrev pub Seeking : Recipe → (ℕ → Bool) → ℕ → (Node → Bool) → ℕ → Type 0
-Seeking s t p f v = Along s p (Missed s t p f) v
+abbrev pub SeekLoop : Recipe → (ℕ → Bool) → ℕ → (Node → Bool) → ℕ → Type 0
+SeekLoop s t p f v = Along s p (Missed s t p f) v
 
 pub found-one : (s : Recipe) (t : ℕ → Bool) (p : ℕ) (f : Node → Bool) (x : Node) → In x (nodes s t) → x .place ≡ p → f x ≡ true → any (λ r. eqb (r .place) p && f r) (nodes s t) ≡ true
 found-one s t p f x i e h = any-in (λ r. eqb (r .place) p && f r) (nodes s t) x i (both (eq-eqb (x .place) p e) h)
 
-module _ {s : Recipe} {t inst : List ℕ} (T : Ready s t inst) (test : ℕ → Bool) (p : ℕ) (here : In p (places s)) (f : Node → Bool) where
+module _ {s : Recipe} {t inst : List ℕ} (T : MarksRequires s t inst) (test : ℕ → Bool) (p : ℕ) (here : In p (places s)) (f : Node → Bool) where
   same : (D E : Node → Type 0) → ((q : Node) → In q (nodes s test) → E q → D q) → ((q : Node) → In q (nodes s test) → D q → E q) → Missed s test p f D → Missed s test p f E
   same D E a b m q i e d = m q i e (a q i d)
 
-  pub seek-start : {h v : ℕ} → h ≡ getD t (p + 0) 0 → v ≡ getD t (h + 8) 0 → Seeking s test p f v
+  pub seek-start : {h v : ℕ} → h ≡ getD t (p + 0) 0 → v ≡ getD t (h + 8) 0 → SeekLoop s test p f v
   seek-start a b = begin T test (Missed s test p f) same p here a b (λ q i e d. absurd (omega arith))
 
-  pub seek-turn : {v u : ℕ} → Seeking s test p f v → (v ≡ 0 → ⊥) → u ≡ getD inst (6 * (v - 1) + 5) 0 → f (node (path s (v - 1)) p) ≡ false → Seeking s test p f u
+  pub seek-turn : {v u : ℕ} → SeekLoop s test p f v → (v ≡ 0 → ⊥) → u ≡ getD inst (6 * (v - 1) + 5) 0 → f (node (path s (v - 1)) p) ≡ false → SeekLoop s test p f u
   seek-turn {v} a n e h =
       turn T test (Missed s test p f) same p here (Missed s test p f) a n e
       (λ m q i k d. ⊎-elim (λ (y : Done s p (v - 1) q). m q i k y) (λ (y : q ≡ node (path s (v - 1)) p). ap f y ∙ h) d)
 
-  pub seek-end : {v : ℕ} → Seeking s test p f v → v ≡ 0 → any (λ r. eqb (r .place) p && f r) (nodes s test) ≡ false
+  pub seek-end : {v : ℕ} → SeekLoop s test p f v → v ≡ 0 → any (λ r. eqb (r .place) p && f r) (nodes s test) ≡ false
   seek-end a z =
       any-none (λ r. eqb (r .place) p && f r) (nodes s test)
       (λ r i. by-cases (eqb (r .place) p)

@@ -30,14 +30,14 @@ use Rattle.tree.proofs.Instances.{below-append, depth}
 use Rattle.tree.proofs.Numbering.{number-few}
 use Rattle.tree.proofs.Trees.{first-append}
 use Rattle.names.proofs.Lists.{getD-in}
-use Rattle.marks.specs.Cells.{Ready, Stamped, aimNumber, asks, goneCell, isSet, markCell, meets, ownerCell, portCell, stamped, stamps}
+use Rattle.marks.specs.Cells.{MarksRequires, Stamped, aimNumber, asks, goneCell, isSet, markCell, meets, ownerCell, portCell, stamped, stamps}
 use Rattle.marks.specs.Faults.{conflictsWithEarlier}
 use Rattle.marks.specs.Marks.{conflict, from, owner, treePointers}
 use Rattle.marks.proofs.Marks.{aim-in, aim-some, aim-target, owner-in, pointer-holder}
 use Rattle.marks.proofs.Pass.{not-model, query, stamped-one, stamped-same}
 use Rattle.marks.proofs.Records.{stamped-by, stamped-other, stamped-port}
 use Rattle.marks.proofs.Relations.{aimed-is}
-use Rattle.marks.proofs.Threads.{Along, Done, Holds, Seeking, begin, finish, found-one, path, seek-end, seek-turn, this-in, turn}
+use Rattle.marks.proofs.Threads.{Along, Done, Holds, SeekLoop, begin, finish, found-one, path, seek-end, seek-turn, this-in, turn}
 
 -- ---- the numbers of targets and owners, from those of their instance
 module _ (s : Recipe) where
@@ -102,14 +102,14 @@ clash s p r = any (λ q. ltb (q .place) p && conflict s q r) (treePointers s)
 
 -- the search for a conflict, along the instances
 abbrev pub Checked : Recipe → ℕ → ℕ → Type 0
-Checked s p v = Seeking s (isPointer s) p (clash s p) v
+Checked s p v = SeekLoop s (isPointer s) p (clash s p) v
 
 -- the cells set, along the instances
-abbrev pub Entering : Recipe → ℕ → List ℕ → ℕ → Type 0
-Entering s p u v = Along s p (λ D. Stamped s D u) v
+abbrev pub EnterLoop : Recipe → ℕ → List ℕ → ℕ → Type 0
+EnterLoop s p u v = Along s p (λ D. Stamped s D u) v
 
 -- ---- where the cells of a record lie
-module _ {s : Recipe} {t inst : List ℕ} (T : Ready s t inst) (p : ℕ) (here : In p (places s)) where
+module _ {s : Recipe} {t inst : List ℕ} (T : MarksRequires s t inst) (p : ℕ) (here : In p (places s)) where
   pub record-room : p + 13 ≤ length t
   record-room = row-room (T .planted .measured .linked .numbered .shadowed) p here
 
@@ -137,7 +137,7 @@ module _ {s : Recipe} {t inst : List ℕ} (T : Ready s t inst) (p : ℕ) (here :
       )
 
 -- ---- a mark or port in one instance
-module _ {s : Recipe} {t inst : List ℕ} (T : Ready s t inst) (p : ℕ) (here : In p (places s)) (sort : isPointer s p ≡ true) where
+module _ {s : Recipe} {t inst : List ℕ} (T : MarksRequires s t inst) (p : ℕ) (here : In p (places s)) (sort : isPointer s p ≡ true) where
   abbrev pub it : ℕ → Node
   it i = node (path s i) p
 
@@ -260,15 +260,15 @@ module _ {s : Recipe} {t inst : List ℕ} (T : Ready s t inst) (p : ℕ) (here :
   check-end a z = sym (seek-end T (isPointer s) p here (clash s p) a z)
 
   -- ---- the cells set, along the instances
-  pub enter-start : {h v : ℕ} (u : List ℕ) → h ≡ getD t (p + 0) 0 → v ≡ getD t (h + 8) 0 → Stamped s (λ q. q .place < p) u → Entering s p u v
+  pub enter-start : {h v : ℕ} (u : List ℕ) → h ≡ getD t (p + 0) 0 → v ≡ getD t (h + 8) 0 → Stamped s (λ q. q .place < p) u → EnterLoop s p u v
   enter-start u a b S = begin T (isPointer s) (λ D. Stamped s D u) (stamped-same s u) p here a b S
 
   pub enter-turn : {v k e o f d x : ℕ} (u : List ℕ) {u′ : List ℕ} → Read s t inst p (v - 1) k e o f → d ≡ getD inst (6 * (v - 1) + 1) 0 → length u ≡ 12 * 1024
-      → u′ ≡ stamped u k (f + e) (f + o) d → Entering s p u v → (v ≡ 0 → ⊥) → x ≡ getD inst (6 * (v - 1) + 5) 0 → Entering s p u′ x
+      → u′ ≡ stamped u k (f + e) (f + o) d → EnterLoop s p u v → (v ≡ 0 → ⊥) → x ≡ getD inst (6 * (v - 1) + 5) 0 → EnterLoop s p u′ x
   enter-turn {v} {k} {e} {o} {f} {d} u w q l r a n y =
       rw r
       (turn T (isPointer s) (λ D. Stamped s D (stamped u k (f + e) (f + o) d)) (stamped-same s (stamped u k (f + e) (f + o) d)) p here (λ D. Stamped s D u) a n y
       (λ S. entered w q u (Done s p (v - 1)) l S))
 
-  pub enter-end : {v : ℕ} (u : List ℕ) → Entering s p u v → v ≡ 0 → Stamped s (λ q. q .place < next s p) u
+  pub enter-end : {v : ℕ} (u : List ℕ) → EnterLoop s p u v → v ≡ 0 → Stamped s (λ q. q .place < next s p) u
   enter-end u a z = finish T (isPointer s) (λ D. Stamped s D u) (stamped-same s u) p here a z

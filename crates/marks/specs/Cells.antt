@@ -75,13 +75,13 @@ abbrev pub AllStamped : Recipe → List ℕ → Type 0
 AllStamped s t = Stamped s (λ q. Unit {0}) t
 
 -- what the passes over elements require: rows 1 to 8 do not apply
-pub record Known (s : Recipe) (t : List ℕ) : Type 0 where
+pub record ElementsRequires (s : Recipe) (t : List ℕ) : Type 0 where
   pub aimed : Aimed s t
   pub row₇ : fault₇ s ≡ none
 
 -- what those over marks and ports require: and the rows of the instances
-abbrev pub Ready : Recipe → List ℕ → List ℕ → Type 0
-Ready s t inst = Targeted s t inst (length (instances s))
+abbrev pub MarksRequires : Recipe → List ℕ → List ℕ → Type 0
+MarksRequires s t inst = Targeted s t inst (length (instances s))
 
 -- a cell that a record of kind k asks is set: e its target's number, o its owner's, d its depth
 unfoldable pub meets : List ℕ → ℕ → ℕ → ℕ → ℕ → Bool

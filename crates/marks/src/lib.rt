@@ -15,7 +15,7 @@ ghost use Rattle.recipe.specs.Records.{recipeAt, places, isElement, isOwned, is
 ghost use Rattle.tree.specs.Planted.{Targeted};
 ghost use Rattle.tree.specs.Tree.{treeElements};
 ghost use Rattle.marks.specs.Faults.{conflictsWithEarlier, fault₉, aimsAtGone, fault₁₁, fault₁₂, markRows, referenceRows};
-ghost use Rattle.marks.specs.Cells.{anySet, isSet, ownerCell, goneCell, Stamped, AllStamped, Known, Ready, meets, stamped};
+ghost use Rattle.marks.specs.Cells.{anySet, isSet, ownerCell, goneCell, Stamped, AllStamped, ElementsRequires, MarksRequires, meets, stamped};
 ghost use Rattle.marks.specs.Gone.{Element, GoneAt, Numbers};
 ghost use Rattle.marks.specs.Listing.{Listed, Only};
 ghost use Rattle.marks.specs.Steps.{NoSteps, Went, stepped, followed, Stepping};
@@ -124,7 +124,7 @@ fn stamp(cells: &mut [u8], k: u8, e: usize, o: usize, d: usize)
 
 // The record at p, a mark or port, conflicts with an earlier one. Along the instances of its definition v is one more than the number of the next, or 0 behind the last.
 fn conflicts_at(s: &[u8], w: usize, p: usize, t: &[u16], inst: &[u16], cells: &[u8]) -> bool
-    requires { ⌜ Ready (recipeAt w (now s)) (now t) (now inst) × (In p (places (recipeAt w (now s))) × ((isPointer (recipeAt w (now s)) p ≡ true) × (Stamped (recipeAt w (now s)) (λ q. q .place < p) (now cells) × (length (now cells) ≡ 12 * 1024)))) ⌝ }
+    requires { ⌜ MarksRequires (recipeAt w (now s)) (now t) (now inst) × (In p (places (recipeAt w (now s))) × ((isPointer (recipeAt w (now s)) p ≡ true) × (Stamped (recipeAt w (now s)) (λ q. q .place < p) (now cells) × (length (now cells) ≡ 12 * 1024)))) ⌝ }
     ensures { λ r. ⌜ r ≡ conflictsWithEarlier (recipeAt w (now (s .entry))) p ⌝ }
 {
     let k = s[p];
@@ -146,7 +146,7 @@ fn conflicts_at(s: &[u8], w: usize, p: usize, t: &[u16], inst: &[u16], cells: &[
 
 // Sets the cells of the record at p, a mark or port, in each instance of its definition.
 fn enter_at(s: &[u8], w: usize, p: usize, t: &[u16], inst: &[u16], cells: &mut [u8])
-    requires { ⌜ Ready (recipeAt w (now s)) (now t) (now inst) × (In p (places (recipeAt w (now s))) × ((isPointer (recipeAt w (now s)) p ≡ true) × (Stamped (recipeAt w (now s)) (λ q. q .place < p) (now cells) × (length (now cells) ≡ 12 * 1024)))) ⌝ }
+    requires { ⌜ MarksRequires (recipeAt w (now s)) (now t) (now inst) × (In p (places (recipeAt w (now s))) × ((isPointer (recipeAt w (now s)) p ≡ true) × (Stamped (recipeAt w (now s)) (λ q. q .place < p) (now cells) × (length (now cells) ≡ 12 * 1024)))) ⌝ }
     ensures { λ _. ⌜ Stamped (recipeAt w (now (s .entry))) (λ q. q .place < next (recipeAt w (now (s .entry))) p) (now (cells .exit)) × (length (now (cells .exit)) ≡ 12 * 1024) ⌝ }
 {
     let k = s[p];
@@ -165,7 +165,7 @@ fn enter_at(s: &[u8], w: usize, p: usize, t: &[u16], inst: &[u16], cells: &mut [
 
 // Row 9: the first record that conflicts with an earlier one; where there is none, the cells that all records set.
 pub fn first_conflict(s: &[u8], w: usize, t: &[u16], inst: &[u16], cells: &mut [u8]) -> Found
-    requires { ⌜ Ready (recipeAt w (now s)) (now t) (now inst) × (now cells ≡ replicate (12 * 1024) 0) ⌝ }
+    requires { ⌜ MarksRequires (recipeAt w (now s)) (now t) (now inst) × (now cells ≡ replicate (12 * 1024) 0) ⌝ }
     ensures { λ r. ⌜ (r ≡ foundOf (fault₉ (recipeAt w (now (s .entry))))) × (r ≡ Found.Nothing → AllStamped (recipeAt w (now (s .entry))) (now (cells .exit)) × (length (now (cells .exit)) ≡ 12 * 1024)) ⌝ }
 {
     let mut p = 0;
@@ -197,7 +197,7 @@ fn put_element(el: &mut [u16], e: usize, p: usize, i: usize)
 
 // Enters the element at p, in each instance of its definition.
 fn elements_at(s: &[u8], w: usize, p: usize, t: &[u16], inst: &[u16], el: &mut [u16])
-    requires { ⌜ Ready (recipeAt w (now s)) (now t) (now inst) × (In p (places (recipeAt w (now s))) × ((isElement (recipeAt w (now s)) p ≡ true) × (Listed (recipeAt w (now s)) (λ x. x .place < p) (now el) × (5 * 1024 ≤ length (now el))))) ⌝ }
+    requires { ⌜ MarksRequires (recipeAt w (now s)) (now t) (now inst) × (In p (places (recipeAt w (now s))) × ((isElement (recipeAt w (now s)) p ≡ true) × (Listed (recipeAt w (now s)) (λ x. x .place < p) (now el) × (5 * 1024 ≤ length (now el))))) ⌝ }
     ensures { λ _. ⌜ Listed (recipeAt w (now (s .entry))) (λ x. x .place < next (recipeAt w (now (s .entry))) p) (now (el .exit)) × (length (now (el .exit)) ≡ length (now (el .entry))) ⌝ }
 {
     let o = cell(t, p, ELEMENT_ORDER);
@@ -214,7 +214,7 @@ fn elements_at(s: &[u8], w: usize, p: usize, t: &[u16], inst: &[u16], el: &mut [
 
 // The elements of the tree by their numbers: the place of each one's record, and the number of its instance.
 pub fn list_elements(s: &[u8], w: usize, t: &[u16], inst: &[u16], el: &mut [u16])
-    requires { ⌜ Ready (recipeAt w (now s)) (now t) (now inst) × (5 * 1024 ≤ length (now el)) ⌝ }
+    requires { ⌜ MarksRequires (recipeAt w (now s)) (now t) (now inst) × (5 * 1024 ≤ length (now el)) ⌝ }
     ensures { λ _. ⌜ Listed (recipeAt w (now (s .entry))) (λ x. Unit {0}) (now (el .exit)) × (length (now (el .exit)) ≡ length (now (el .entry))) ⌝ }
 {
     let mut p = 0;
@@ -240,7 +240,7 @@ fn is_marked(cells: &[u8], e: usize) -> bool
 
 // Whether the element of number e, at place q, is gone: marked so itself, or a child of one that is.
 fn is_gone(s: &[u8], w: usize, t: &[u16], cells: &[u8], e: usize, q: usize) -> bool
-    requires { ⌜ Known (recipeAt w (now s)) (now t) × (AllStamped (recipeAt w (now s)) (now cells) × ((length (now cells) ≡ 12 * 1024) × Element (recipeAt w (now s)) e q)) ⌝ }
+    requires { ⌜ ElementsRequires (recipeAt w (now s)) (now t) × (AllStamped (recipeAt w (now s)) (now cells) × ((length (now cells) ≡ 12 * 1024) × Element (recipeAt w (now s)) e q)) ⌝ }
     ensures { λ r. ⌜ GoneAt (recipeAt w (now (s .entry))) e r ⌝ }
 {
     if is_marked(cells, e) {
@@ -257,7 +257,7 @@ fn is_gone(s: &[u8], w: usize, t: &[u16], cells: &[u8], e: usize, q: usize) -> b
 
 // Marks the elements of the tree that are gone by 1, and the others by 0.
 pub fn mark_gone(s: &[u8], w: usize, t: &[u16], cells: &[u8], el: &mut [u16], elems: usize)
-    requires { ⌜ Known (recipeAt w (now s)) (now t) × (AllStamped (recipeAt w (now s)) (now cells) × ((length (now cells) ≡ 12 * 1024) × (ElementRows (recipeAt w (now s)) (now el) × (elems ≡ length (treeElements (recipeAt w (now s))))))) ⌝ }
+    requires { ⌜ ElementsRequires (recipeAt w (now s)) (now t) × (AllStamped (recipeAt w (now s)) (now cells) × ((length (now cells) ≡ 12 * 1024) × (ElementRows (recipeAt w (now s)) (now el) × (elems ≡ length (treeElements (recipeAt w (now s))))))) ⌝ }
     ensures { λ _. ⌜ Gones (recipeAt w (now (s .entry))) (now (el .exit)) × Only 2 (now (el .entry)) (now (el .exit)) ⌝ }
 {
     let mut e = 0;
@@ -275,7 +275,7 @@ pub fn mark_gone(s: &[u8], w: usize, t: &[u16], cells: &[u8], el: &mut [u16], el
 
 // The replaced-by at p has, in some instance of its definition, a target that is gone.
 fn aims_at_gone(s: &[u8], w: usize, p: usize, t: &[u16], inst: &[u16], el: &[u16]) -> bool
-    requires { ⌜ Ready (recipeAt w (now s)) (now t) (now inst) × (In p (places (recipeAt w (now s))) × ((isReplacedBy (recipeAt w (now s)) p ≡ true) × (Gones (recipeAt w (now s)) (now el) × (5 * 1024 ≤ length (now el))))) ⌝ }
+    requires { ⌜ MarksRequires (recipeAt w (now s)) (now t) (now inst) × (In p (places (recipeAt w (now s))) × ((isReplacedBy (recipeAt w (now s)) p ≡ true) × (Gones (recipeAt w (now s)) (now el) × (5 * 1024 ≤ length (now el))))) ⌝ }
     ensures { λ r. ⌜ r ≡ aimsAtGone (recipeAt w (now (s .entry))) p ⌝ }
 {
     let e = cell(t, p, TARGET_NUMBER);
@@ -294,7 +294,7 @@ fn aims_at_gone(s: &[u8], w: usize, p: usize, t: &[u16], inst: &[u16], el: &[u16
 
 // Row 11: the first replaced-by whose target is gone, in the tree.
 pub fn first_lost(s: &[u8], w: usize, t: &[u16], inst: &[u16], el: &[u16]) -> Found
-    requires { ⌜ Ready (recipeAt w (now s)) (now t) (now inst) × (Gones (recipeAt w (now s)) (now el) × (5 * 1024 ≤ length (now el))) ⌝ }
+    requires { ⌜ MarksRequires (recipeAt w (now s)) (now t) (now inst) × (Gones (recipeAt w (now s)) (now el) × (5 * 1024 ≤ length (now el))) ⌝ }
     ensures { λ r. ⌜ r ≡ foundOf (fault₁₁ (recipeAt w (now (s .entry)))) ⌝ }
 {
     let mut p = 0;
@@ -327,7 +327,7 @@ fn put_step(el: &mut [u16], k: u8, a: usize, b: usize)
 
 // The steps of the record at p, a replacement or replaced-by, in each instance of its definition.
 fn steps_at(s: &[u8], w: usize, p: usize, t: &[u16], inst: &[u16], el: &mut [u16])
-    requires { ⌜ Ready (recipeAt w (now s)) (now t) (now inst) × (In p (places (recipeAt w (now s))) × ((isOwned (recipeAt w (now s)) p ≡ true) × ((fault₉ (recipeAt w (now s)) ≡ none) × (Went (recipeAt w (now s)) (λ q. q .place < p) (now el) × (5 * 1024 ≤ length (now el)))))) ⌝ }
+    requires { ⌜ MarksRequires (recipeAt w (now s)) (now t) (now inst) × (In p (places (recipeAt w (now s))) × ((isOwned (recipeAt w (now s)) p ≡ true) × ((fault₉ (recipeAt w (now s)) ≡ none) × (Went (recipeAt w (now s)) (λ q. q .place < p) (now el) × (5 * 1024 ≤ length (now el)))))) ⌝ }
     ensures { λ _. ⌜ Went (recipeAt w (now (s .entry))) (λ q. q .place < next (recipeAt w (now (s .entry))) p) (now (el .exit)) × Only 3 (now (el .entry)) (now (el .exit)) ⌝ }
 {
     let k = s[p];
@@ -345,7 +345,7 @@ fn steps_at(s: &[u8], w: usize, p: usize, t: &[u16], inst: &[u16], el: &mut [u16
 
 // The chain's steps: of each element of the tree, one more than the number of the next, or 0.
 pub fn fill_steps(s: &[u8], w: usize, t: &[u16], inst: &[u16], el: &mut [u16])
-    requires { ⌜ Ready (recipeAt w (now s)) (now t) (now inst) × ((fault₉ (recipeAt w (now s)) ≡ none) × (NoSteps (recipeAt w (now s)) (now el) × (5 * 1024 ≤ length (now el)))) ⌝ }
+    requires { ⌜ MarksRequires (recipeAt w (now s)) (now t) (now inst) × ((fault₉ (recipeAt w (now s)) ≡ none) × (NoSteps (recipeAt w (now s)) (now el) × (5 * 1024 ≤ length (now el)))) ⌝ }
     ensures { λ _. ⌜ Nexts (recipeAt w (now (s .entry))) (now (el .exit)) × Only 3 (now (el .entry)) (now (el .exit)) ⌝ }
 {
     let mut p = 0;
@@ -391,7 +391,7 @@ fn refers_to_none(s: &[u8], w: usize, p: usize) -> bool
 
 // One more than the number of the end of the chain from the reference of the element of number e, at place p; 0 where it names none.
 fn reference_end(s: &[u8], w: usize, t: &[u16], el: &[u16], e: usize, p: usize) -> usize
-    requires { ⌜ Known (recipeAt w (now s)) (now t) × (ElementRows (recipeAt w (now s)) (now el) × (Nexts (recipeAt w (now s)) (now el) × Element (recipeAt w (now s)) e p)) ⌝ }
+    requires { ⌜ ElementsRequires (recipeAt w (now s)) (now t) × (ElementRows (recipeAt w (now s)) (now el) × (Nexts (recipeAt w (now s)) (now el) × Element (recipeAt w (now s)) e p)) ⌝ }
     ensures { λ r. ⌜ EndAt (recipeAt w (now (s .entry))) e r × (r ≤ 1024) ⌝ }
 {
     let q = cell(t, p, REFERENCE);
@@ -431,7 +431,7 @@ fn refers_wrongly(s: &[u8], w: usize, el: &[u16], e: usize, z: usize) -> bool
 
 // Row 12: the lowest record of a survivor whose reference is at fault; and of each survivor the end of the chain from its reference.
 pub fn first_misreferred(s: &[u8], w: usize, t: &[u16], el: &mut [u16], elems: usize) -> Found
-    requires { ⌜ Known (recipeAt w (now s)) (now t) × (ElementRows (recipeAt w (now s)) (now el) × (Gones (recipeAt w (now s)) (now el) × (Nexts (recipeAt w (now s)) (now el) × (elems ≡ length (treeElements (recipeAt w (now s))))))) ⌝ }
+    requires { ⌜ ElementsRequires (recipeAt w (now s)) (now t) × (ElementRows (recipeAt w (now s)) (now el) × (Gones (recipeAt w (now s)) (now el) × (Nexts (recipeAt w (now s)) (now el) × (elems ≡ length (treeElements (recipeAt w (now s))))))) ⌝ }
     ensures { λ r. ⌜ (r ≡ foundOf (fault₁₂ (recipeAt w (now (s .entry))))) × (Ends (recipeAt w (now (s .entry))) (now (el .exit)) × Only 4 (now (el .entry)) (now (el .exit))) ⌝ }
 {
     let mut best = s.len();

@@ -11,7 +11,7 @@ use Rattle.names.specs.Scans.{scan}
 use Rattle.names.specs.Order.{before}
 use Rattle.name_index.specs.declared.Layout.{Layout}
 use Rattle.name_index.specs.Index.{keyedName, Indexes, isRepeat}
-use Rattle.name_index.specs.Steps.{Placed}
+use Rattle.name_index.specs.Steps.{InsertionPoint}
 use Rattle.names.proofs.Tests.{by-cases, not-both, three}
 use Rattle.names.proofs.Lists.{same-true, same-false, eq-same}
 use Rattle.names.proofs.Scans.{scan-at, scan-none, scan-some, some-scan}
@@ -55,11 +55,11 @@ module _ (name : ℕ → List ℕ) (xs : List ℕ) (n : ℕ) where
         (λ z. absurd (omega arith));
   }
 
-  pub narrow-done : {f : List ℕ} {lo hi : ℕ} → Narrow f lo hi → hi ≤ lo → Placed name xs n f lo
+  pub narrow-done : {f : List ℕ} {lo hi : ℕ} → Narrow f lo hi → hi ≤ lo → InsertionPoint name xs n f lo
   narrow-done {f} {lo} {hi} w h = record { within = omega (arith, w .within, w .order); low = w .low; high = λ k u v. w .high k (omega arith) v }
 
   -- ---- what stands at the place
-  module _ (f : List ℕ) (r : ℕ) (p : Placed name xs n f r) where
+  module _ (f : List ℕ) (r : ℕ) (p : InsertionPoint name xs n f r) where
     low-differs : (k q : ℕ) → k < r → getD xs k 0 ≡ q → name q ≡ f → ⊥
     low-differs k q h e z =
         let b : before (name q) f ≡ true = rw e at (p .low k h) in

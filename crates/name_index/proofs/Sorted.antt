@@ -34,17 +34,17 @@ all-at P (x ∷ xs) (suc k) h l = all-at P xs k (h .1) (omega arith)
 
 module _ (name : ℕ → List ℕ) where
   -- p stands before q in the index
-  abbrev pub Stands : ℕ → ℕ → Type 0
-  Stands p q = (before (name q) (name p) ≡ false) × (name p ≡ name q → p < q)
+  abbrev pub StandsAt : ℕ → ℕ → Type 0
+  StandsAt p q = (before (name q) (name p) ≡ false) × (name p ≡ name q → p < q)
 
   abbrev Rises : List ℕ → Type 0
   Rises [] = Unit
-  Rises (x ∷ xs) = All (Stands x) xs × Rises xs
+  Rises (x ∷ xs) = All (StandsAt x) xs × Rises xs
 
-  rises-at : (xs : List ℕ) (i j : ℕ) → Rises xs → i < j → j < length xs → Stands (getD xs i 0) (getD xs j 0)
+  rises-at : (xs : List ℕ) (i j : ℕ) → Rises xs → i < j → j < length xs → StandsAt (getD xs i 0) (getD xs j 0)
   rises-at [] i j h l m = absurd (omega arith)
   rises-at (x ∷ xs) i zero h l m = absurd (omega arith)
-  rises-at (x ∷ xs) zero (suc j) h l m = all-at (Stands x) xs j (h .0) (omega arith)
+  rises-at (x ∷ xs) zero (suc j) h l m = all-at (StandsAt x) xs j (h .0) (omega arith)
   rises-at (x ∷ xs) (suc i) (suc j) h l m = rises-at xs i j (h .1) (omega arith) (omega arith)
 
   -- ---- one position put in
@@ -71,7 +71,7 @@ module _ (name : ℕ → List ℕ) where
   length-insert p [] = refl
   length-insert p (q ∷ qs) = by-cases (before (name p) (name q)) (λ e. rw e) (λ e. rw e (ap suc (length-insert p qs)))
 
-  first-stands : (p q : ℕ) → before (name p) (name q) ≡ true → Stands p q
+  first-stands : (p q : ℕ) → before (name p) (name q) ≡ true → StandsAt p q
   first-stands p q h = (asym (name p) (name q) h, λ e. not-both (rw e at h) (irreflexive (name q)))
 
   insert-rises : (p : ℕ) (xs : List ℕ) → All (λ q. q < p) xs → Rises xs → Rises (insert name p xs)
@@ -80,7 +80,7 @@ module _ (name : ℕ → List ℕ) where
   insert-rises p (q ∷ qs) a r =
       by-cases (before (name p) (name q))
       (λ e. rw e ((first-stands p q e, all-map qs (λ x s. first-stands p x (lt-le (name p) (name q) (name x) e (s .0))) (r .0)), r))
-      (λ e. rw e (insert-all (Stands q) p qs (e, λ u. a .0) (r .0), insert-rises p qs (a .1) (r .1)))
+      (λ e. rw e (insert-all (StandsAt q) p qs (e, λ u. a .0) (r .0), insert-rises p qs (a .1) (r .1)))
 
   -- ---- all of them
   pub ordered-length : (from n : ℕ) → length (ordered name from n) ≡ n
@@ -113,7 +113,7 @@ module _ (name : ℕ → List ℕ) where
   -- ---- an index, place by place
   pub record Ranked (n : ℕ) (xs : List ℕ) : Type 0 where
     pub below : (k : ℕ) → k < n → getD xs k 0 < n
-    pub rising : (i j : ℕ) → i < j → j < n → Stands (getD xs i 0) (getD xs j 0)
+    pub rising : (i j : ℕ) → i < j → j < n → StandsAt (getD xs i 0) (getD xs j 0)
     pub has : (q : ℕ) → q < n → (k : ℕ) × (k < n) × (getD xs k 0 ≡ q)
 
   pub ranked : (n : ℕ) (xs : List ℕ) → take n xs ≡ ordered name 0 n → Ranked n xs
@@ -123,8 +123,8 @@ module _ (name : ℕ → List ℕ) where
       record {
         below = λ k h. let b = all-at (λ q. q < 0 + n) (ordered name 0 n) k (ordered-all 0 n) (omega arith) in omega (arith, at k h);
         rising = λ i j h l.
-            subst (λ (x : ℕ). Stands x (getD xs j 0)) (at i (omega arith))
-            (subst (λ (x : ℕ). Stands (getD (ordered name 0 n) i 0) x) (at j l) (rises-at (ordered name 0 n) i j (ordered-rises 0 n) h (omega arith)));
+            subst (λ (x : ℕ). StandsAt x (getD xs j 0)) (at i (omega arith))
+            (subst (λ (x : ℕ). StandsAt (getD (ordered name 0 n) i 0) x) (at j l) (rises-at (ordered name 0 n) i j (ordered-rises 0 n) h (omega arith)));
         has = λ q h.
             let r = in-getD (ordered name 0 n) (0 + q) 0 (ordered-in 0 n q h) in
             let l : r .0 < n = omega (arith, r .1 .0) in

@@ -25,7 +25,7 @@ module _ (name : ℕ → List ℕ) where
   nextRight (a ∷ xs) (b ∷ ys) = before (name b) (name a)
 
   -- where the name f stands or would stand: all names before the place come before f, no later one does
-  pub record Placed (xs : List ℕ) (n : ℕ) (f : List ℕ) (r : ℕ) : Type 0 where
+  pub record InsertionPoint (xs : List ℕ) (n : ℕ) (f : List ℕ) (r : ℕ) : Type 0 where
     pub within : r ≤ n
     pub low : (k : ℕ) → k < r → before (name (getD xs k 0)) f ≡ true
     pub high : (k : ℕ) → r ≤ k → k < n → before (name (getD xs k 0)) f ≡ false

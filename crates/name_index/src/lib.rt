@@ -9,7 +9,7 @@ ghost use Rattle.names.specs.Order.{before};
 ghost use Rattle.names.specs.Scans.{scan, foundOf, table};
 ghost use Rattle.name_index.specs.Hash.{fourAt, mixed, mixedFrom, hashOf};
 ghost use Rattle.name_index.specs.Index.{nameOf, keyedName, Whole, Keyed, Below, Indexes, ordered, isRepeat};
-ghost use Rattle.name_index.specs.Steps.{merged, nextRight, Placed};
+ghost use Rattle.name_index.specs.Steps.{merged, nextRight, InsertionPoint};
 use names::Found;
 
 // Where the name stands in a record, how long a record is, and how long a name is.
@@ -253,7 +253,7 @@ fn place(
     name: &[u8],
 ) -> usize
     requires { ⌜ Indexes (now keys) (now bytes) l n (now index) ⌝ }
-    ensures { λ r. ⌜ Placed (keyedName (now (keys .entry)) (now (bytes .entry)) l) (now (index .entry)) n (key ∷ now (name .entry)) r ⌝ }
+    ensures { λ r. ⌜ InsertionPoint (keyedName (now (keys .entry)) (now (bytes .entry)) l) (now (index .entry)) n (key ∷ now (name .entry)) r ⌝ }
 {
     let mut lo = 0;
     let mut hi = n;

@@ -150,22 +150,22 @@ module _ (s : Recipe) where
       (λ e. omega (arith, ltb-false (stop s) (length (s .bytes)) e, stop-within))
 
   -- ---- what is left to read at p: enough tries, and the stop that they lead to
-  abbrev pub Left : ℕ → Type 0
-  Left p = (n : ℕ) × (length (s .bytes) ≤ p + n) × (stop s ≡ stopFrom n s p)
+  abbrev pub LeftToRead : ℕ → Type 0
+  LeftToRead p = (n : ℕ) × (length (s .bytes) ≤ p + n) × (stop s ≡ stopFrom n s p)
 
-  pub left-start : Left 0
+  pub left-start : LeftToRead 0
   unfolding stop
   left-start = (length (s .bytes), omega arith, refl)
 
-  pub left-more : (p : ℕ) → isReadable s p ≡ true → Left p → Left (next s p)
+  pub left-more : (p : ℕ) → isReadable s p ≡ true → LeftToRead p → LeftToRead (next s p)
   unfolding stopFrom
   left-more p e l = go (l .0) (l .1) (l .2)
     where
-      go : (n : ℕ) → length (s .bytes) ≤ p + n → stop s ≡ stopFrom n s p → Left (next s p)
+      go : (n : ℕ) → length (s .bytes) ≤ p + n → stop s ≡ stopFrom n s p → LeftToRead (next s p)
       go zero h q = absurd (omega (arith, readable-fits p e, next-more p))
       go (suc n) h q = (n, omega (arith, next-more p), rw (e, stopFrom) at q)
 
-  pub left-end : (p : ℕ) → isReadable s p ≡ false → Left p → p ≡ stop s
+  pub left-end : (p : ℕ) → isReadable s p ≡ false → LeftToRead p → p ≡ stop s
   unfolding stopFrom
   left-end p e l = sym (l .2 ∙ go (l .0))
     where

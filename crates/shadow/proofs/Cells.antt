@@ -60,16 +60,16 @@ unfolding next kind
 step-next s p e = ap (λ (k : ℕ). p + k) e
 
 -- ---- the cells ks of the record at p are written
-pub record Row (ks : List ℕ) (f : ℕ → ℕ → ℕ) (p : ℕ) (t t′ : List ℕ) : Type 0 where
+pub record RowWritten (ks : List ℕ) (f : ℕ → ℕ → ℕ) (p : ℕ) (t t′ : List ℕ) : Type 0 where
   pub long : length t′ ≡ length t
   pub at : (k : ℕ) → In k ks → getD t′ (p + k) 0 ≡ f k p
   pub off : (i : ℕ) → ((k : ℕ) → In k ks → p + k ≡ i → ⊥) → getD t′ i 0 ≡ getD t i 0
 
-pub row-none : (f : ℕ → ℕ → ℕ) (p : ℕ) (t : List ℕ) → Row [] f p t t
+pub row-none : (f : ℕ → ℕ → ℕ) (p : ℕ) (t : List ℕ) → RowWritten [] f p t t
 row-none f p t = record { long = refl; at = λ k i. absurd i; off = λ i h. refl }
 
-pub row-set : {ks : List ℕ} {f : ℕ → ℕ → ℕ} {p : ℕ} {t t′ : List ℕ} (k : ℕ) {v : ℕ} → Row ks f p t t′ → p + k < length t → v ≡ f k p
-    → Row (k ∷ ks) f p t (set t′ (p + k) v)
+pub row-set : {ks : List ℕ} {f : ℕ → ℕ → ℕ} {p : ℕ} {t t′ : List ℕ} (k : ℕ) {v : ℕ} → RowWritten ks f p t t′ → p + k < length t → v ≡ f k p
+    → RowWritten (k ∷ ks) f p t (set t′ (p + k) v)
 row-set {ks} {f} {p} {t} {t′} k {v} r l e =
     let here-is : getD (set t′ (p + k) v) (p + k) 0 ≡ f k p = getD-set-same t′ (p + k) v 0 (omega (arith, r .long)) ∙ e in
     record {
@@ -84,7 +84,7 @@ row-set {ks} {f} {p} {t} {t′} k {v} r l e =
     }
 
 -- a cell that has its value already
-pub row-left : {ks : List ℕ} {f : ℕ → ℕ → ℕ} {p : ℕ} {t t′ : List ℕ} (k : ℕ) → Row ks f p t t′ → getD t′ (p + k) 0 ≡ f k p → Row (k ∷ ks) f p t t′
+pub row-left : {ks : List ℕ} {f : ℕ → ℕ → ℕ} {p : ℕ} {t t′ : List ℕ} (k : ℕ) → RowWritten ks f p t t′ → getD t′ (p + k) 0 ≡ f k p → RowWritten (k ∷ ks) f p t t′
 row-left {ks} {f} {p} {t} {t′} k r e = record {
   long = r .long;
   at = λ j i. ⊎-elim (λ (q : j ≡ k). rw q e) (λ (q : In j ks). r .at j q) i;
@@ -129,7 +129,7 @@ cell-over k o h n g x i = o .as-was x k i h n ∙ g x i
 pub shadowed-over : {s : Recipe} {ks t₀ t : List ℕ} → Kept s ks t₀ t → Shadowed s t₀ → Shadowed s t
 shadowed-over o c = record { wide = c .wide; narrow = c .narrow; short = c .short; whole = c .whole; room = omega (arith, o .long, c .room) }
 
-pub row-kept : {s : Recipe} {t₀ ks : List ℕ} {f : ℕ → ℕ → ℕ} {p : ℕ} {t t′ : List ℕ} → Shadowed s t₀ → In p (places s) → every (λ k. ltb k 13) ks ≡ true → Row ks f p t t′ → Kept s ks t t′
+pub row-kept : {s : Recipe} {t₀ ks : List ℕ} {f : ℕ → ℕ → ℕ} {p : ℕ} {t t′ : List ℕ} → Shadowed s t₀ → In p (places s) → every (λ k. ltb k 13) ks ≡ true → RowWritten ks f p t t′ → Kept s ks t t′
 row-kept {s} {t₀} {ks} {f} {p} c at-p lows r = record {
   long = r .long;
   as-was = λ x k i h n. r .off (x + k) (λ j m. cells-differ c p x j k at-p i (low ks j lows m) h (λ y z. not-among ks k j n m (sym z)));
@@ -182,7 +182,7 @@ pub filling-start : (s : Recipe) (ks : List ℕ) (f : ℕ → ℕ → ℕ) (t : 
 filling-start s ks f t = record { done = λ k m x i l. absurd (omega arith); ahead = λ k m x i l. refl }
 
 module _ {s : Recipe} {ks : List ℕ} {f : ℕ → ℕ → ℕ} {t₀ t : List ℕ} {p : ℕ} (g : Filling s ks f t₀ t p) where
-  pub filling-one : {t₁ t′ : List ℕ} {n : ℕ} → Shadowed s t₁ → In p (places s) → every (λ k. ltb k 13) ks ≡ true → n ≡ recordLength (s .width) (getD (s .bytes) p 0) → Row ks f p t t′ → Filling s ks f t₀ t′ (p + n)
+  pub filling-one : {t₁ t′ : List ℕ} {n : ℕ} → Shadowed s t₁ → In p (places s) → every (λ k. ltb k 13) ks ≡ true → n ≡ recordLength (s .width) (getD (s .bytes) p 0) → RowWritten ks f p t t′ → Filling s ks f t₀ t′ (p + n)
   filling-one {t₁} {t′} {n} c at-p lows e r =
       let more = on-more _ _ e in
       let off : (k : ℕ) → In k ks → (x : ℕ) → In x (places s) → (p ≡ x → ⊥) → getD t′ (x + k) 0 ≡ getD t (x + k) 0 = λ k m x i h.

@@ -26,7 +26,7 @@ use Rattle.shadow.proofs.Cells.{row-room}
 use Rattle.tree.specs.Numbers.{ahead, firstBelow, numberIn}
 use Rattle.tree.specs.Resolve.{Keeps, OffsetOf}
 use Rattle.tree.specs.Tree.{Node, definitionBelow, elementTarget, node, submodelNames, target, targetBelow, targetBy, targetNamed, targetWithin, through}
-use Rattle.tree.specs.Walk.{Known, Right}
+use Rattle.tree.specs.Walk.{OffsetsKnown, OffsetRight}
 use Rattle.tree.proofs.ByHeight.{target-by-height}
 
 module _ (s : Recipe) where
@@ -61,38 +61,38 @@ module _ (s : Recipe) where
       not-both (first-model s (rw z at (readable s p (k .0)))) m
 
   -- ---- what is named
-  pub record Element (d x : ℕ) : Type 0 where
+  pub record NamedElement (d x : ℕ) : Type 0 where
     pub place : In x (places s)
     pub sort : isElement s x ≡ true
     pub held : holder s x ≡ d
     pub some-place : x ≡ 0 → ⊥
 
-  pub record Port (d x : ℕ) : Type 0 where
+  pub record NamedPort (d x : ℕ) : Type 0 where
     pub place : In x (places s)
     pub sort : isPort s x ≡ true
     pub held : holder s x ≡ d
     pub some-place : x ≡ 0 → ⊥
 
-  an-element : (d x : ℕ) (t : List ℕ) → elementNamed s d t ≡ some x → Element d x
+  an-element : (d x : ℕ) (t : List ℕ) → elementNamed s d t ≡ some x → NamedElement d x
   unfolding elementNamed named elements
   an-element d x t e =
       let f = in-keep (isElement s) (recordsOf s d) x (some-first (λ p. same (name s p) t) (elements s d) x e .0) in
       let g = in-records s d x (f .0) in
       record { place = g .0; sort = f .1; held = g .1; some-place = not-zero d x (f .0) }
 
-  a-port : (d x : ℕ) (t : List ℕ) → portNamed s d t ≡ some x → Port d x
+  a-port : (d x : ℕ) (t : List ℕ) → portNamed s d t ≡ some x → NamedPort d x
   unfolding portNamed named ports
   a-port d x t e =
       let f = in-keep (isPort s) (recordsOf s d) x (some-first (λ p. same (name s p) t) (ports s d) x e .0) in
       let g = in-records s d x (f .0) in
       record { place = g .0; sort = f .1; held = g .1; some-place = not-zero d x (f .0) }
 
-  named-blank : (r x : ℕ) → isBlank (submodelField s r) ≡ true → namedBy s r ≡ some x → Element (holder s r) x
+  named-blank : (r x : ℕ) → isBlank (submodelField s r) ≡ true → namedBy s r ≡ some x → NamedElement (holder s r) x
   unfolding namedBy
   named-blank r x b e = an-element (holder s r) x (text (targetField s r)) (rw b at e)
 
   named-below : (r x : ℕ) → isBlank (submodelField s r) ≡ false → namedBy s r ≡ some x
-      → ((eqb (way s r) 0 ≡ true) × Element (modelOf s (submodelOf s r)) x) ⊎ ((eqb (way s r) 0 ≡ false) × Port (modelOf s (submodelOf s r)) x)
+      → ((eqb (way s r) 0 ≡ true) × NamedElement (modelOf s (submodelOf s r)) x) ⊎ ((eqb (way s r) 0 ≡ false) × NamedPort (modelOf s (submodelOf s r)) x)
   unfolding namedBy
   named-below r x b e =
       by-cases (eqb (way s r) 0)
@@ -136,11 +136,11 @@ module _ (s : Recipe) where
   unfolding numberIn through node firstBelow definitionBelow
   number-through d m y = omega arith
 
-  pub known-down : (t : List ℕ) (d m : ℕ) → In m (submodels s d) → Known s t d → Known s t (modelOf s m)
+  pub known-down : (t : List ℕ) (d m : ℕ) → In m (submodels s d) → OffsetsKnown s t d → OffsetsKnown s t (modelOf s m)
   unfolding definitionBelow
   known-down t d m i k path p j = k (m ∷ path) (i, p) j
 
-  known-here : (t : List ℕ) (d m : ℕ) → In m (submodels s d) → Known s t d → Right s t m
+  known-here : (t : List ℕ) (d m : ℕ) → In m (submodels s d) → OffsetsKnown s t d → OffsetRight s t m
   unfolding definitionBelow
   known-here t d m i k = k [] tt m i
 
@@ -165,8 +165,8 @@ module _ {s : Recipe} {t : List ℕ} (M : Measured s t) (r : ℕ) (here : In r (
   named-zero x e =
       by-cases (isBlank (submodelField s r))
       (λ b. named-blank s r x b e .some-place)
-      (λ b. ⊎-elim (λ (w : (eqb (way s r) 0 ≡ true) × Element s (modelOf s (submodelOf s r)) x). w .1 .some-place)
-      (λ (w : (eqb (way s r) 0 ≡ false) × Port s (modelOf s (submodelOf s r)) x). w .1 .some-place) (named-below s r x b e))
+      (λ b. ⊎-elim (λ (w : (eqb (way s r) 0 ≡ true) × NamedElement s (modelOf s (submodelOf s r)) x). w .1 .some-place)
+      (λ (w : (eqb (way s r) 0 ≡ false) × NamedPort s (modelOf s (submodelOf s r)) x). w .1 .some-place) (named-below s r x b e))
 
   next-none : {x : ℕ} → x ≡ getD t (r + 5) 0 → x ≡ 0 → namedBy s r ≡ none
   next-none q z =
@@ -202,7 +202,7 @@ module _ {s : Recipe} {t : List ℕ} (M : Measured s t) (r : ℕ) (here : In r (
       (λ b. target-blank s h r b ∙ ap (Option·map (node [])) (next-none q z))
       (λ b. target-way s h r (L .row₅) here sort b ∙ ap (Option·map (through (submodelOf s r))) (named-none s h r b (next-none q z)))
 
-  offset-is : {f : ℕ} → OffsetOf t r f → isBlank (submodelField s r) ≡ false → Known s t (holder s r) → f ≡ ahead s (holder s r) (submodelOf s r)
+  offset-is : {f : ℕ} → OffsetOf t r f → isBlank (submodelField s r) ≡ false → OffsetsKnown s t (holder s r) → f ≡ ahead s (holder s r) (submodelOf s r)
   offset-is o b k =
       let q = filled-cell b in
       let held = in-submodels s (holder s r) (submodelOf s r) (sub-held b) .held in
@@ -217,8 +217,8 @@ module _ {s : Recipe} {t : List ℕ} (M : Measured s t) (r : ℕ) (here : In r (
     named-place =
         by-cases (isBlank (submodelField s r))
         (λ b. named-blank s r x b is-named .place)
-        (λ b. ⊎-elim (λ (w : (eqb (way s r) 0 ≡ true) × Element s (modelOf s (submodelOf s r)) x). w .1 .place)
-        (λ (w : (eqb (way s r) 0 ≡ false) × Port s (modelOf s (submodelOf s r)) x). w .1 .place) (named-below s r x b is-named))
+        (λ b. ⊎-elim (λ (w : (eqb (way s r) 0 ≡ true) × NamedElement s (modelOf s (submodelOf s r)) x). w .1 .place)
+        (λ (w : (eqb (way s r) 0 ≡ false) × NamedPort s (modelOf s (submodelOf s r)) x). w .1 .place) (named-below s r x b is-named))
 
     pub named-row : x + 13 ≤ length t
     named-row = row-room c₀ x named-place
@@ -231,7 +231,7 @@ module _ {s : Recipe} {t : List ℕ} (M : Measured s t) (r : ℕ) (here : In r (
     unfolding isElement kind
     element-kind e = eqb-true (getD (s .bytes) x 0) 2 e
 
-    order-is : {d g : ℕ} → Element s d x → g ≡ getD t (x + 1) 0 → g ≡ order s d x
+    order-is : {d g : ℕ} → NamedElement s d x → g ≡ getD t (x + 1) 0 → g ≡ order s d x
     order-is E e = e ∙ L .numbered .orders x (E .place) (E .sort) ∙ ap (λ (d : ℕ). order s d x) (E .held)
 
     -- an element: the target
@@ -251,15 +251,15 @@ module _ {s : Recipe} {t : List ℕ} (M : Measured s t) (r : ℕ) (here : In r (
         (λ b.
         let m = submodelOf s r in
         ⊎-elim
-        (λ (w : (eqb (way s r) 0 ≡ true) × Element s (modelOf s m) x).
-        let v : Known s t (holder s r) → numberIn s (holder s r) (through m (node [] x)) ≡ f + g = λ kn.
+        (λ (w : (eqb (way s r) 0 ≡ true) × NamedElement s (modelOf s m) x).
+        let v : OffsetsKnown s t (holder s r) → numberIn s (holder s r) (through m (node [] x)) ≡ f + g = λ kn.
         omega (arith, number-through s (holder s r) m (node [] x), number-own s (modelOf s m) x, order-is (w .1) e, offset-is o b kn) in record {
           node = through m (node [] x);
           there = by-one ∙ target-way s h r (L .row₅) here sort b ∙ ap (Option·map (through m)) (named-element s h r x b is-named (w .0));
           at = refl;
           counts = λ kn l. a (omega (arith, v kn)) ∙ sym (v kn);
         })
-        (λ (w : (eqb (way s r) 0 ≡ false) × Port s (modelOf s m) x). absurd (element-not-port k (w .1 .sort)))
+        (λ (w : (eqb (way s r) 0 ≡ false) × NamedPort s (modelOf s m) x). absurd (element-not-port k (w .1 .sort)))
         (named-below s r x b is-named))
 
     -- a further port, of the model of the submodel that is named
@@ -273,11 +273,11 @@ module _ {s : Recipe} {t : List ℕ} (M : Measured s t) (r : ℕ) (here : In r (
       abbrev m : ℕ
       m = submodelOf s r
 
-      port : (eqb (way s r) 0 ≡ false) × Port s (modelOf s m) x
+      port : (eqb (way s r) 0 ≡ false) × NamedPort s (modelOf s m) x
       port =
           ⊎-elim
-          (λ (w : (eqb (way s r) 0 ≡ true) × Element s (modelOf s m) x). absurd (k (element-kind (w .1 .sort))))
-          (λ (w : (eqb (way s r) 0 ≡ false) × Port s (modelOf s m) x). w)
+          (λ (w : (eqb (way s r) 0 ≡ true) × NamedElement s (modelOf s m) x). absurd (k (element-kind (w .1 .sort))))
+          (λ (w : (eqb (way s r) 0 ≡ false) × NamedPort s (modelOf s m) x). w)
           (named-below s r x filled is-named)
 
       pub port-sort : isPointer s x ≡ true

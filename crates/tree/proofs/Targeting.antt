@@ -20,7 +20,7 @@ use Rattle.tree.specs.Numbers.{firstAt, number, numberIn, reach}
 use Rattle.tree.specs.Planted.{Aimed, Planted, Targeted}
 use Rattle.tree.specs.Resolve.{TargetNumbers}
 use Rattle.tree.specs.Tree.{Node, definitionAt, instances, target, treeElements}
-use Rattle.tree.specs.Walk.{Known}
+use Rattle.tree.specs.Walk.{OffsetsKnown}
 use Rattle.tree.proofs.Instances.{below-append, instance-path, is-instance, submodels-append}
 use Rattle.tree.proofs.Nodes.{Placed, in-nodes, node-holder, node-place, tree-in}
 use Rattle.tree.proofs.Numbering.{number-few}
@@ -41,7 +41,7 @@ planted-over {s} o e e₇ e₆ e₃ P = record {
 
 module _ (s : Recipe) where
   -- the offsets of all submodels of the tree are those below each instance
-  known-at : {t inst : List ℕ} {n : ℕ} → Planted s t inst n → (path : List ℕ) → In path (instances s) → Known s t (definitionAt s path)
+  known-at : {t inst : List ℕ} {n : ℕ} → Planted s t inst n → (path : List ℕ) → In path (instances s) → OffsetsKnown s t (definitionAt s path)
   unfolding definitionAt
   known-at P path i q p m j =
       P .offsets (path ++ q) (is-instance s (P .row₇) (path ++ q) (submodels-append s main path q (instance-path s path i) p)) m

@@ -27,7 +27,7 @@ use Rattle.tree.specs.Faults.{fault₇, isTooLarge, mostInstances, mostE
 use Rattle.tree.specs.Numbers.{ahead, firstAt, firstBelow, total, weightIn}
 use Rattle.tree.specs.Planted.{Planted, ThreadRequires, Threaded}
 use Rattle.tree.specs.Tree.{Submodels, definitionAt, definitionBelow, instances, mostDepth, nodes, pathsBelow, treeElements}
-use Rattle.tree.specs.Walk.{Covered, Grown, Right, deepIn, instsIn, over, rowsIn, rowsOver}
+use Rattle.tree.specs.Walk.{Covered, Grown, OffsetRight, deepIn, instsIn, over, rowsIn, rowsOver}
 use Rattle.tree.proofs.Instances.{below-append, below-submodels, paths-suffice, submodels-below}
 use Rattle.tree.proofs.Walks.{ahead-split, instsAt, not-deep, over-not, rows-long, rowsAt, rowsUnder, total-append, weightAt}
 use Rattle.tree.proofs.Numbering.{Shallow, joined-append, map-append, numberBelow, numbers, run-length, total-cong, weight-enough}
@@ -152,13 +152,13 @@ module _ (s : Recipe) where
   -- look gives an instance's path by its number
   module _ (look : ℕ → List ℕ) where
     -- the six numbers are those of the instance i at the path
-    record Row (i : ℕ) (path : List ℕ) (f : ℕ → ℕ) : Type 0 where
+    record InstanceRow (i : ℕ) (path : List ℕ) (f : ℕ → ℕ) : Type 0 where
       pub model : f 0 ≡ definitionBelow s main path
       pub depth : f 1 ≡ length path
       pub start : f 2 ≡ firstBelow s main path
       pub above : 0 < i → (f 4 < i) × (path ≡ look (f 4) ++ (f 3 ∷ []))
 
-    row-same : {i j : ℕ} (p q : List ℕ) (f g : ℕ → ℕ) → i ≡ j → p ≡ q → ((c : ℕ) → c < 5 → f c ≡ g c) → Row i p f → Row j q g
+    row-same : {i j : ℕ} (p q : List ℕ) (f g : ℕ → ℕ) → i ≡ j → p ≡ q → ((c : ℕ) → c < 5 → f c ≡ g c) → InstanceRow i p f → InstanceRow j q g
     row-same p q f g a b h r =
         rw (sym a, sym b) record {
           model = sym (h 0 (omega arith)) ∙ r .model;
@@ -168,15 +168,15 @@ module _ (s : Recipe) where
         }
 
     -- c rows, those of the instances from i on
-    abbrev Rows : ℕ → ℕ → List ℕ → Type 0
-    Rows i c R = (j : ℕ) → j < c → Row (i + j) (look (i + j)) (λ k. getD R (6 * j + k) 0)
+    abbrev InstanceRowsFrom : ℕ → ℕ → List ℕ → Type 0
+    InstanceRowsFrom i c R = (j : ℕ) → j < c → InstanceRow (i + j) (look (i + j)) (λ k. getD R (6 * j + k) 0)
 
-    one-row : (i : ℕ) (p l : List ℕ) → look (i + 0) ≡ p → Row i p (λ c. getD l c 0) → Rows i 1 l
+    one-row : (i : ℕ) (p l : List ℕ) → look (i + 0) ≡ p → InstanceRow i p (λ c. getD l c 0) → InstanceRowsFrom i 1 l
     one-row i p l q r zero h =
         row-same p (look (i + 0)) (λ c. getD l c 0) (λ c. getD l (6 * 0 + c) 0) (sym (add-zero i)) (sym q) (λ c b. ap (λ (y : ℕ). getD l y 0) (omega arith)) r
     one-row i p l q r (suc j) h = absurd (omega arith)
 
-    rows-join : (i a b : ℕ) (A B : List ℕ) → length A ≡ 6 * a → Rows i a A → Rows (i + a) b B → Rows i (a + b) (A ++ B)
+    rows-join : (i a b : ℕ) (A B : List ℕ) → length A ≡ 6 * a → InstanceRowsFrom i a A → InstanceRowsFrom (i + a) b B → InstanceRowsFrom i (a + b) (A ++ B)
     rows-join i a b A B l p q j h =
         by-cases (ltb j a)
         (λ z.
@@ -193,11 +193,11 @@ module _ (s : Recipe) where
 
     -- those of subtrees, one after another
     over-rows : (f : ℕ → ℕ → ℕ → List ℕ) (w c : ℕ → ℕ) (e i : ℕ) (ms : List ℕ) → ((m x j : ℕ) → length (f m x j) ≡ 6 * c m)
-        → ((xs ys : List ℕ) (m : ℕ) → ms ≡ xs ++ m ∷ ys → Rows (i + total c xs) (c m) (f m (e + total w xs) (i + total c xs)))
-        → Rows i (total c ms) (rowsOver f w c e i ms)
+        → ((xs ys : List ℕ) (m : ℕ) → ms ≡ xs ++ m ∷ ys → InstanceRowsFrom (i + total c xs) (c m) (f m (e + total w xs) (i + total c xs)))
+        → InstanceRowsFrom i (total c ms) (rowsOver f w c e i ms)
     over-rows f w c e i [] l h = λ j z. absurd (omega arith)
     over-rows f w c e i (m ∷ ms) l h =
-        let first : Rows i (c m) (f m e i) = rw (add-zero i, add-zero e) at (h [] ms m refl) in
+        let first : InstanceRowsFrom i (c m) (f m e i) = rw (add-zero i, add-zero e) at (h [] ms m refl) in
         rows-join i (c m) (total c ms) (f m e i) (rowsOver f w c (e + w m) (i + c m) ms) (l m e i) first
         (over-rows f w c (e + w m) (i + c m) ms l
         (λ xs ys k q.
@@ -206,8 +206,8 @@ module _ (s : Recipe) where
         rw (a, b) (h (m ∷ xs) ys k (ap (λ (l : List ℕ). m ∷ l) q))))
 
     -- the submodel q of the instance i
-    sub-row : (n d k e i m u q : ℕ) (pre xs ys : List ℕ) → Row i pre (six d k e m u) → look i ≡ pre → submodels s d ≡ xs ++ q ∷ ys → Shallow s (suc n) d → n ≤ 5
-        → Row (suc i + total (instsAt s n) xs) (pre ++ q ∷ []) (six (modelOf s q) (suc k) (e + length (elements s d) + total (weightAt s n) xs) q i)
+    sub-row : (n d k e i m u q : ℕ) (pre xs ys : List ℕ) → InstanceRow i pre (six d k e m u) → look i ≡ pre → submodels s d ≡ xs ++ q ∷ ys → Shallow s (suc n) d → n ≤ 5
+        → InstanceRow (suc i + total (instsAt s n) xs) (pre ++ q ∷ []) (six (modelOf s q) (suc k) (e + length (elements s d) + total (weightAt s n) xs) q i)
     unfolding definitionBelow firstBelow
     sub-row n d k e i m u q pre xs ys r o t h l = record {
       model = sym (below-append s main pre (q ∷ []));
@@ -223,8 +223,8 @@ module _ (s : Recipe) where
     }
 
     -- the tree below the instance i
-    below-rows : (n d k e i m u : ℕ) (pre : List ℕ) → Shallow s n d → n ≤ 5 → Row i pre (six d k e m u)
-        → ((j : ℕ) → j < instsIn n s d → look (i + j) ≡ pre ++ getD (pathsBelow n s d) j []) → Rows i (instsIn n s d) (rowsIn n s d k e i m u)
+    below-rows : (n d k e i m u : ℕ) (pre : List ℕ) → Shallow s n d → n ≤ 5 → InstanceRow i pre (six d k e m u)
+        → ((j : ℕ) → j < instsIn n s d → look (i + j) ≡ pre ++ getD (pathsBelow n s d) j []) → InstanceRowsFrom i (instsIn n s d) (rowsIn n s d k e i m u)
     unfolding rowsIn instsIn pathsBelow
     below-rows zero d k e i m u pre h l r looks = one-row i pre (d ∷ k ∷ e ∷ m ∷ u ∷ 0 ∷ []) (looks 0 (omega arith) ∙ append-nil pre) r
     below-rows (suc n) d k e i m u pre h l r looks =
@@ -232,7 +232,7 @@ module _ (s : Recipe) where
         let S = submodels s d in
         let C = instsAt s n in
         let piece : (xs ys : List ℕ) (q : ℕ) → S ≡ xs ++ q ∷ ys
-        → Rows (suc i + total C xs) (C q) (rowsAt s n (suc k) i q (e + length (elements s d) + total (weightAt s n) xs) (suc i + total C xs)) =
+        → InstanceRowsFrom (suc i + total C xs) (C q) (rowsAt s n (suc k) i q (e + length (elements s d) + total (weightAt s n) xs) (suc i + total C xs)) =
         λ xs ys q t.
         below-rows n (modelOf s q) (suc k) (e + length (elements s d) + total (weightAt s n) xs) (suc i + total C xs) q i (pre ++ q ∷ [])
         (h q (rw t (append-right xs (q ∷ ys) q (inl refl)))) (omega arith)
@@ -245,7 +245,7 @@ module _ (s : Recipe) where
         ∙ ap (λ (z : List ℕ). pre ++ getD (joined (map (pathsAt n) z)) (total C xs + j) []) t
         ∙ ap (λ (z : List ℕ). pre ++ z) (paths-at n q j xs ys y)
         ∙ sym (append-assoc pre (q ∷ []) (getD (pathsBelow n s (modelOf s q)) j []))) in
-        let under : Rows (suc i) (total C S) (rowsUnder s n d k e i S) =
+        let under : InstanceRowsFrom (suc i) (total C S) (rowsUnder s n d k e i S) =
         over-rows (rowsAt s n (suc k) i) (weightAt s n) C (e + length (elements s d)) (suc i) S (λ q x j. rows-long s n (modelOf s q) (suc k) x j q i) piece in
         rows-join i 1 (total C S) (d ∷ k ∷ e ∷ m ∷ u ∷ 0 ∷ []) (rowsUnder s n d k e i S) refl (one-row i pre (d ∷ k ∷ e ∷ m ∷ u ∷ 0 ∷ []) o r) (rw add-one under)
 
@@ -273,7 +273,7 @@ module _ (s : Recipe) where
     unfolding mostDepth
     rows-are = g .rows inst₀ 0 0 start
 
-    row-at : (i : ℕ) → i < j → Row look i (look i) (λ c. getD inst′ (6 * i + c) 0)
+    row-at : (i : ℕ) → i < j → InstanceRow look i (look i) (λ c. getD inst′ (6 * i + c) 0)
     unfolding definitionBelow firstBelow
     row-at i h =
         let R = rowsIn 4 s main 0 0 0 0 0 in
@@ -281,7 +281,7 @@ module _ (s : Recipe) where
         let F = few in
         let L : length R ≡ 6 * instsIn 4 s main = rows-long s 4 main 0 0 0 0 0 in
         let z : 0 + i ≡ i = omega arith in
-        let top : Row look 0 [] (six main 0 0 0 0) = record { model = refl; depth = refl; start = refl; above = λ y. absurd (omega arith) } in
+        let top : InstanceRow look 0 [] (six main 0 0 0 0) = record { model = refl; depth = refl; start = refl; above = λ y. absurd (omega arith) } in
         let rows = below-rows look 4 main 0 0 0 0 0 [] shallow (omega arith) top
         (λ y k. ap look (omega arith) ∙ ap (λ (l : List (List ℕ)). getD l y []) paths-are) in
         row-same look (look (0 + i)) (look i) (λ c. getD R (6 * i + c) 0) (λ c. getD inst′ (6 * i + c) 0) z (ap look z)
@@ -293,14 +293,14 @@ module _ (s : Recipe) where
     pub elements-are : x ≡ length (treeElements s)
     elements-are = omega (arith, g .elems, tree-weight shallow)
 
-    covered-right : (n d : ℕ) (path : List ℕ) → Covered n s d t′ → Shallow s n d → Submodels s d path → (m : ℕ) → In m (submodels s (definitionBelow s d path)) → Right s t′ m
+    covered-right : (n d : ℕ) (path : List ℕ) → Covered n s d t′ → Shallow s n d → Submodels s d path → (m : ℕ) → In m (submodels s (definitionBelow s d path)) → OffsetRight s t′ m
     unfolding Covered definitionBelow
     covered-right zero d [] c h p m i = absurd (h m i)
     covered-right zero d (k ∷ path) c h p m i = absurd (h k (p .0))
     covered-right (suc n) d [] c h p m i = c m i .0
     covered-right (suc n) d (k ∷ path) c h p m i = covered-right n (modelOf s k) path (c k (p .0) .1) (h k (p .0)) (p .1) m i
 
-    offset-at : (path : List ℕ) → In path (instances s) → (m : ℕ) → In m (submodels s (definitionAt s path)) → Right s t′ m
+    offset-at : (path : List ℕ) → In path (instances s) → (m : ℕ) → In m (submodels s (definitionAt s path)) → OffsetRight s t′ m
     unfolding definitionAt instances
     offset-at path i m k = covered-right 4 main path (g .covers) shallow (below-submodels s _ main path i) m k
 

@@ -29,7 +29,7 @@ use Rattle.shadow.proofs.Columns.{linked-over}
 use Rattle.tree.specs.Faults.{mostElements, mostInstances}
 use Rattle.tree.specs.Numbers.{ahead, total, weight, weightIn}
 use Rattle.tree.specs.Tree.{mostDepth}
-use Rattle.tree.specs.Walk.{Covered, Grown, Right, WalkKeeps, WalkRequires, deepIn, instsIn, over, rowsIn, rowsOver, submodelAfter}
+use Rattle.tree.specs.Walk.{Covered, Grown, OffsetRight, WalkKeeps, WalkRequires, deepIn, instsIn, over, rowsIn, rowsOver, submodelAfter}
 use Rattle.tree.proofs.Numbering.{Shallow, submodels-rise, total-cong, weight-is}
 use Rattle.tree.proofs.Submodels.{after-further, after-split, after-start, headOf, holder-own}
 
@@ -166,7 +166,7 @@ module _ (s : Recipe) where
   too-deep (suc n) d i e m z j = absurd (omega arith)
 
   -- ---- the tables so far
-  covered-keeps : (n d : ℕ) (off off′ : List ℕ) → ((m : ℕ) → Right s off m → Right s off′ m) → Covered n s d off → Covered n s d off′
+  covered-keeps : (n d : ℕ) (off off′ : List ℕ) → ((m : ℕ) → OffsetRight s off m → OffsetRight s off′ m) → Covered n s d off → Covered n s d off′
   unfolding Covered
   covered-keeps zero d off off′ h c = tt
   covered-keeps (suc n) d off off′ h c = λ m i. (h m (c m i .0), covered-keeps n (modelOf s m) off off′ h (c m i .1))
@@ -185,8 +185,8 @@ module _ (s : Recipe) where
     pub rows : (inst₁ : List ℕ) (m u : ℕ) → inst₀ ≡ sets inst₁ (6 * i) (d ∷ (mostDepth - n) ∷ e ∷ m ∷ u ∷ 0 ∷ [])
         → inst ≡ sets inst₁ (6 * i) (d ∷ (mostDepth - n) ∷ e ∷ m ∷ u ∷ 0 ∷ rowsUnder (n - 1) d (mostDepth - n) e i pre)
     pub flat : (q : ℕ) → In q pre → deepIn (n - 1) s (modelOf s q) ≡ false
-    pub keeps : (q : ℕ) → Right s t₀ q → Right s t q
-    pub covers : (q : ℕ) → In q pre → Right s t q × Covered (n - 1) s (modelOf s q) t
+    pub keeps : (q : ℕ) → OffsetRight s t₀ q → OffsetRight s t q
+    pub covers : (q : ℕ) → In q pre → OffsetRight s t q × Covered (n - 1) s (modelOf s q) t
     pub left : WalkKeeps s t₀ inst₀ t inst
 
   -- no submodel is left
@@ -218,10 +218,10 @@ module _ (s : Recipe) where
       )
 
   -- ---- a submodel p, the next
-  right-own : (t : List ℕ) (p v : ℕ) → p + 7 < length t → v ≡ ahead s (holder s p) p → Right s (set t (p + 7) v) p
+  right-own : (t : List ℕ) (p v : ℕ) → p + 7 < length t → v ≡ ahead s (holder s p) p → OffsetRight s (set t (p + 7) v) p
   right-own t p v l q = getD-set-same t (p + 7) v 0 l ∙ q
 
-  right-set : (t : List ℕ) (p v m : ℕ) → p + 7 < length t → v ≡ ahead s (holder s p) p → Right s t m → Right s (set t (p + 7) v) m
+  right-set : (t : List ℕ) (p v m : ℕ) → p + 7 < length t → v ≡ ahead s (holder s p) p → OffsetRight s t m → OffsetRight s (set t (p + 7) v) m
   right-set t p v m l q c =
       by-cases (eqb m p)
       (λ z. rw (eqb-true m p z) (right-own t p v l q))
@@ -281,7 +281,7 @@ module _ (s : Recipe) where
         let F = over-not (n - 1) (modelOf s p) j x o in
         let k = n - 1 in
         let Vv : x - e ≡ ahead s (holder s p) p = ahead-is ∙ ap (λ (z : ℕ). ahead s z p) (sym held) in
-        let K : (m : ℕ) → Right s t m → Right s t′ m = λ m c. w .keeps m (rw q (right-set t p (x - e) m l Vv c)) in
+        let K : (m : ℕ) → OffsetRight s t m → OffsetRight s t′ m = λ m c. w .keeps m (rw q (right-set t p (x - e) m l Vv c)) in
         let A = total-append (instsAt k) (g .pre) (p ∷ []) in
         let B = total-append (weightAt k) (g .pre) (p ∷ []) in record {
           pre = g .pre ++ p ∷ [];

@@ -13,7 +13,7 @@ use Rattle.shadow.specs.Shadow.{Kept}
 use Rattle.shadow.specs.Columns.{Measured}
 use Rattle.tree.specs.Numbers.{numberIn, reach}
 use Rattle.tree.specs.Tree.{Node, target}
-use Rattle.tree.specs.Walk.{Known}
+use Rattle.tree.specs.Walk.{OffsetsKnown}
 
 -- the elements before the subtree that the port or mark at r names: 0 where it names none
 pub record OffsetOf (t : List ℕ) (r f : ℕ) : Type 0 where
@@ -26,7 +26,7 @@ pub record Keeps (s : Recipe) (t : List ℕ) (r place num : ℕ) : Type 0 where
   pub node : Node
   pub there : target s r ≡ some node
   pub at : place ≡ node .place
-  pub counts : Known s t (holder s r) → numberIn s (holder s r) node < 65536 → num ≡ numberIn s (holder s r) node
+  pub counts : OffsetsKnown s t (holder s r) → numberIn s (holder s r) node < 65536 → num ≡ numberIn s (holder s r) node
 
 -- the cells that are being filled: what they have is right. A target at 0 is none yet: there main stands, never an element.
 abbrev pub Memo : Recipe → List ℕ → Type 0
@@ -49,4 +49,4 @@ pub record Resolved (s : Recipe) (t t′ : List ℕ) (r : ℕ) (ok : Bool) : Typ
 
 -- the shadow has the targets' numbers, where the offsets are known and the number fits
 abbrev pub TargetNumbers : Recipe → List ℕ → Type 0
-TargetNumbers s t = (r : ℕ) → In r (places s) → isPointer s r ≡ true → Known s t (holder s r) → reach s r < 65536 → getD t (r + 9) 0 ≡ reach s r
+TargetNumbers s t = (r : ℕ) → In r (places s) → isPointer s r ≡ true → OffsetsKnown s t (holder s r) → reach s r < 65536 → getD t (r + 9) 0 ≡ reach s r

@@ -50,17 +50,17 @@ rowsIn (suc n) s d k e i m u =
     (e + length (elements s d)) (suc i) (submodels s d)
 
 -- the shadow has the number of elements before the submodel's subtree
-abbrev pub Right : Recipe → List ℕ → ℕ → Type 0
-Right s t m = getD t (m + 7) 0 ≡ ahead s (holder s m) m
+abbrev pub OffsetRight : Recipe → List ℕ → ℕ → Type 0
+OffsetRight s t m = getD t (m + 7) 0 ≡ ahead s (holder s m) m
 
 -- it has the numbers of all submodels below d, however deep
-abbrev pub Known : Recipe → List ℕ → ℕ → Type 0
-Known s t d = (path : List ℕ) → Submodels s d path → (m : ℕ) → In m (submodels s (definitionBelow s d path)) → Right s t m
+abbrev pub OffsetsKnown : Recipe → List ℕ → ℕ → Type 0
+OffsetsKnown s t d = (path : List ℕ) → Submodels s d path → (m : ℕ) → In m (submodels s (definitionBelow s d path)) → OffsetRight s t m
 
 -- it has those of all submodels below, n deep
 unfoldable pub Covered : ℕ → Recipe → ℕ → List ℕ → Type 0
 Covered zero s d t = Unit {0}
-Covered (suc n) s d t = (m : ℕ) → In m (submodels s d) → Right s t m × Covered n s (modelOf s m) t
+Covered (suc n) s d t = (m : ℕ) → In m (submodels s d) → OffsetRight s t m × Covered n s (modelOf s m) t
 
 -- what a walk below the instance of row i requires: its row is written, and itself it is within the limits
 pub record WalkRequires (s : Recipe) (t inst : List ℕ) (i e n : ℕ) : Type 0 where
@@ -77,7 +77,7 @@ pub record Grown (s : Recipe) (n d i e : ℕ) (t inst t′ inst′ : List ℕ) (
   pub elems : x ≡ e + weightIn n s d
   pub rows : (inst₀ : List ℕ) (m u : ℕ) → inst ≡ sets inst₀ (6 * i) (d ∷ (mostDepth - n) ∷ e ∷ m ∷ u ∷ 0 ∷ [])
       → inst′ ≡ sets inst₀ (6 * i) (rowsIn n s d (mostDepth - n) e i m u)
-  pub keeps : (q : ℕ) → Right s t q → Right s t′ q
+  pub keeps : (q : ℕ) → OffsetRight s t q → OffsetRight s t′ q
   pub covers : Covered n s d t′
 
 -- what every walk leaves: the other cells, and a table of rows as long

@@ -14,13 +14,19 @@ use Rattle.bandrolt.proofs.judge.Statement.{statement}
 use Rattle.bandrolt.proofs.judge.Tie as tie
 
 returns : tie.Need-returns
-returns c = got-failed (toZ w64 (ofZ w64 (c .before .before .args .got))) (length (now (c .before .before .args .room))) (c .if1 .taken) ∙ ap (λ (z : ℤ). gotOf z (length (now (c .before .before .args .room)))) (toZ-ofZ (c .before .before .fits .got))
+returns c =
+    let at-start = c .before .before in
+    got-failed (toZ w64 (ofZ w64 (at-start .args .got))) (length (now (at-start .args .room))) (c .if1 .taken) ∙ ap (λ (z : ℤ). gotOf z (length (now (at-start .args .room)))) (toZ-ofZ (at-start .fits .got))
 
 returns-2 : tie.Need-returns-2
-returns-2 c = got-end (toZ w64 (ofZ w64 (c .before .before .before .before .args .got))) (length (now (c .before .before .before .before .args .room))) (c .before .before .if1 .left) (c .before .count .ensures .1) (c .if2 .taken) ∙ ap (λ (z : ℤ). gotOf z (length (now (c .before .before .before .before .args .room)))) (toZ-ofZ (c .before .before .before .before .fits .got))
+returns-2 c =
+    let at-count = c .before in let at-if1 = at-count .before in let at-start = at-if1 .before .before in
+    got-end (toZ w64 (ofZ w64 (at-start .args .got))) (length (now (at-start .args .room))) (at-if1 .if1 .left) (at-count .count .ensures .1) (c .if2 .taken) ∙ ap (λ (z : ℤ). gotOf z (length (now (at-start .args .room)))) (toZ-ofZ (at-start .fits .got))
 
 returns-3 : tie.Need-returns-3
-returns-3 c = got-more (toZ w64 (ofZ w64 (c .before .before .before .before .args .got))) (length (now (c .before .before .before .before .args .room))) (c .before .before .if1 .left) (c .before .count .ensures .1) (c .if2 .left) ∙ ap (λ (z : ℤ). gotOf z (length (now (c .before .before .before .before .args .room)))) (toZ-ofZ (c .before .before .before .before .fits .got))
+returns-3 c =
+    let at-count = c .before in let at-if1 = at-count .before in let at-start = at-if1 .before .before in
+    got-more (toZ w64 (ofZ w64 (at-start .args .got))) (length (now (at-start .args .room))) (at-if1 .if1 .left) (at-count .count .ensures .1) (c .if2 .left) ∙ ap (λ (z : ℤ). gotOf z (length (now (at-start .args .room)))) (toZ-ofZ (at-start .fits .got))
 
 pub judge-spec : {M : Type 1} → statement M
 judge-spec = tie.close (tie.spec returns (search needs) returns-2 returns-3)

@@ -11,9 +11,10 @@ use Rattle.bandrolt.proofs.main.Tie as tie
 print-recipe-requires : tie.Need-print-recipe-requires
 unfolding inputRoom outputRoom
 print-recipe-requires c κs =
+    let at-read = c .before .before .before .before in let at-read-input = at-read .before .before .before in
     record {
-      whole = rw (c .before .before .before .before .before .before .before .read-input .kept .1 .0, length-replicate) (omega arith);
-      read = rw length-replicate at (read-within (c .before .before .before .before .read .given .1) (c .before .before .before .before .before .before .before .read-input .ensures));
+      whole = rw (at-read-input .read-input .kept .1 .0, length-replicate) (omega arith);
+      read = rw length-replicate at (read-within (at-read .read .given .1) (at-read-input .read-input .ensures));
       room = rw length-replicate (omega arith);
       space = rw length-replicate (omega arith);
     }

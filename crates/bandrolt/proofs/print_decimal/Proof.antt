@@ -8,10 +8,14 @@ use Rattle.bandrolt.proofs.print_decimal.Statement.{statement}
 use Rattle.bandrolt.proofs.print_decimal.Tie as tie
 
 put-requires : tie.Need-put-requires
-put-requires c κs = omega (arith, c .before .before .decimal .ensures .0, word-digits (c .before .before .decimal .result) (c .before .before .before .before .before .args .k) (c .before .before .before .before .before .fits .k .fits) (c .before .before .decimal .ensures .1 .0))
+put-requires c κs =
+    let at-decimal = c .before .before in let at-start = at-decimal .before .before .before in
+    omega (arith, at-decimal .decimal .ensures .0, word-digits (at-decimal .decimal .result) (at-start .args .k) (at-start .fits .k .fits) (at-decimal .decimal .ensures .1 .0))
 
 returns : tie.Need-returns
-returns c = decimal-stands (c .before .before .before .before .before .before .before .before .args .k) (c .before .before .before .before .before .decimal .result) (c .before .before .before .before .before .decimal .last .1 .0) (word-digits (c .before .before .before .before .before .decimal .result) (c .before .before .before .before .before .before .before .before .args .k) (c .before .before .before .before .before .before .before .before .fits .k .fits) (c .before .before .before .before .before .decimal .ensures .1 .0)) (c .before .before .before .before .before .decimal .ensures .0 .1) (c .before .before .before .before .before .decimal .ensures .1 .0) (c .before .before .before .before .before .decimal .ensures .1 .1) (c .before .before .put .ensures)
+returns c =
+    let at-put = c .before .before in let at-decimal = at-put .before .before .before in let at-start = at-decimal .before .before .before in
+    decimal-stands (at-start .args .k) (at-decimal .decimal .result) (at-decimal .decimal .last .1 .0) (word-digits (at-decimal .decimal .result) (at-start .args .k) (at-start .fits .k .fits) (at-decimal .decimal .ensures .1 .0)) (at-decimal .decimal .ensures .0 .1) (at-decimal .decimal .ensures .1 .0) (at-decimal .decimal .ensures .1 .1) (at-put .put .ensures)
 
 pub print-decimal-spec : {M : Type 1} → statement M
 print-decimal-spec = tie.close (tie.spec (search needs) (search needs) (search needs) put-requires (search needs)

@@ -6,7 +6,9 @@ use Rattle.bandrolt.proofs.print_row.Statement.{statement}
 use Rattle.bandrolt.proofs.print_row.Tie as tie
 
 returns : tie.Need-returns
-returns c = row-stands _ _ (c .before .before .before .before .before .before .before .before .before .before .before .before .before .before .before .before .before .before .before .print-kind .ensures) (c .before .before .before .before .before .before .before .before .before .before .before .before .before .before .before .print-column .ensures) (c .before .before .before .before .before .before .before .before .before .before .before .print-column2 .ensures) (c .before .before .before .before .before .before .before .print-column3 .ensures) (c .before .before .put .ensures)
+returns c =
+    let at-put = c .before .before in let at-print-column3 = at-put .before .before .before .before .before in let at-print-column2 = at-print-column3 .before .before .before .before in let at-print-column = at-print-column2 .before .before .before .before in let at-print-kind = at-print-column .before .before .before .before in
+    row-stands _ _ (at-print-kind .print-kind .ensures) (at-print-column .print-column .ensures) (at-print-column2 .print-column2 .ensures) (at-print-column3 .print-column3 .ensures) (at-put .put .ensures)
 
 pub print-row-spec : {M : Type 1} → statement M
 print-row-spec = tie.close (tie.spec (search needs) (search needs) (search needs) (search needs) (search needs)

@@ -3,19 +3,19 @@
 use borrow.Author.Needs.{needs}
 use Prim.Native.Nat.{_-_}
 use lib.ListN.{length}
-use Rattle.bandrolt.proofs.Rows.{Going, going-start, going-more, going-end}
+use Rattle.bandrolt.proofs.Rows.{PrintLoop, going-start, going-more, going-end}
 use native.Mathlib.Omega.{arith}
 use Rattle.bandrolt.proofs.print_rows.Statement.{statement}
 use Rattle.bandrolt.proofs.print_rows.Tie as tie
 
 abbrev Inv-loop : tie.InvT-loop
-Inv-loop table text₀ at p₀ end₀ text p end = Going table text₀ at text p end
+Inv-loop table text₀ at p₀ end₀ text p end = PrintLoop table text₀ at text p end
 
 abbrev μ-loop : tie.MeasureT-loop
 μ-loop table text₀ at p₀ end₀ text p end = length table - p
 
 loop-holds : tie.Need-loop-holds Inv-loop μ-loop
-loop-holds c = going-start _ _ _ (c .before .before .pre .0) (c .before .before .pre .1 .0) (c .before .before .pre .1 .1)
+loop-holds c = let at-start = c .before .before in going-start _ _ _ (at-start .pre .0) (at-start .pre .1 .0) (at-start .pre .1 .1)
 
 sub-loop : tie.Need-sub-loop Inv-loop μ-loop
 sub-loop c = c .loop .inv .inside

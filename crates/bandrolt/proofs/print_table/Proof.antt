@@ -8,7 +8,9 @@ use Rattle.bandrolt.proofs.print_table.Tie as tie
 
 returns : tie.Need-returns
 unfolding characters
-returns c = table-stands _ _ (c .before .before .before .before .before .before .before .before .before .before .before .before .before .before .before .put .ensures) (c .before .before .before .before .before .before .before .before .before .before .before .print-decimal .ensures .0) (c .before .before .before .before .before .before .put2 .ensures) (c .before .before .print-rows .ensures)
+returns c =
+    let at-print-rows = c .before .before in let at-put2 = at-print-rows .before .before .before .before in let at-print-decimal = at-put2 .before .before .before .before .before in let at-put = at-print-decimal .before .before .before .before in
+    table-stands _ _ (at-put .put .ensures) (at-print-decimal .print-decimal .ensures .0) (at-put2 .put2 .ensures) (at-print-rows .print-rows .ensures)
 
 pub print-table-spec : {M : Type 1} → statement M
 print-table-spec = tie.close (tie.spec (search needs) (search needs) (search needs) (search needs) (search needs)

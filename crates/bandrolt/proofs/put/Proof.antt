@@ -6,7 +6,9 @@ use Rattle.bandrolt.proofs.put.Statement.{statement}
 use Rattle.bandrolt.proofs.put.Tie as tie
 
 returns : tie.Need-returns
-returns c = copied-stands (c .before .before .before .before .before .before .args .bytes .now) (c .before .before .before .before .before .before .args .text .now) (c .before .before .before .before .before .before .args .at) (c .before .before .before .before .before .before .pre) (c .before .before .put-bytes .ensures)
+returns c =
+    let at-put-bytes = c .before .before in let at-start = at-put-bytes .before .before .before .before in
+    copied-stands (at-start .args .bytes .now) (at-start .args .text .now) (at-start .args .at) (at-start .pre) (at-put-bytes .put-bytes .ensures)
 
 pub put-spec : {M : Type 1} → statement M
 put-spec = tie.close (tie.spec (search needs) (search needs) (search needs) returns)

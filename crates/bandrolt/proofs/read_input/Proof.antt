@@ -16,13 +16,19 @@ abbrev μ-loop : tie.MeasureT-loop
 μ-loop fd input₀ n₀ input n = length input - n
 
 add-n : tie.Need-add-n Inv-loop μ-loop
-add-n c = omega (arith, turn _ (c .before .before .before .before .before .before .before .before .before .before .before .loop .input) (c .before .before .before .before .before .before .before .before .before .before .before .loop .n) (c .before .before .before .before .before .before .before .before .read .last .1 .0) (c .before .before .before .before .before .before .before .before .read .kept .1 .0) (sym (c .before .got .given .1) ∙ c .before .before .before .judge .ensures) (c .before .before .before .before .before .before .before .before .before .before .loop-test .taken))
+add-n c =
+    let at-got = c .before in let at-judge = at-got .before .before in let at-read = at-judge .before .before .before .before .before in let at-loop-test = at-read .before .before in let at-loop = at-loop-test .before in
+    omega (arith, turn _ (at-loop .loop .input) (at-loop .loop .n) (at-read .read .last .1 .0) (at-read .read .kept .1 .0) (sym (at-got .got .given .1) ∙ at-judge .judge .ensures) (at-loop-test .loop-test .taken))
 
 loop-less : tie.Need-loop-less Inv-loop μ-loop
-loop-less c = omega (arith, turn _ (c .before .before .before .before .before .before .before .before .before .before .before .loop .input) (c .before .before .before .before .before .before .before .before .before .before .before .loop .n) (c .before .before .before .before .before .before .before .before .read .last .1 .0) (c .before .before .before .before .before .before .before .before .read .kept .1 .0) (sym (c .before .got .given .1) ∙ c .before .before .before .judge .ensures) (c .before .before .before .before .before .before .before .before .before .before .loop-test .taken))
+loop-less c =
+    let at-got = c .before in let at-judge = at-got .before .before in let at-read = at-judge .before .before .before .before .before in let at-loop-test = at-read .before .before in let at-loop = at-loop-test .before in
+    omega (arith, turn _ (at-loop .loop .input) (at-loop .loop .n) (at-read .read .last .1 .0) (at-read .read .kept .1 .0) (sym (at-got .got .given .1) ∙ at-judge .judge .ensures) (at-loop-test .loop-test .taken))
 
 loop-again : tie.Need-loop-again Inv-loop μ-loop
-loop-again c = omega (arith, turn _ (c .before .before .before .before .before .before .before .before .before .before .before .loop .input) (c .before .before .before .before .before .before .before .before .before .before .before .loop .n) (c .before .before .before .before .before .before .before .before .read .last .1 .0) (c .before .before .before .before .before .before .before .before .read .kept .1 .0) (sym (c .before .got .given .1) ∙ c .before .before .before .judge .ensures) (c .before .before .before .before .before .before .before .before .before .before .loop-test .taken))
+loop-again c =
+    let at-got = c .before in let at-judge = at-got .before .before in let at-read = at-judge .before .before .before .before .before in let at-loop-test = at-read .before .before in let at-loop = at-loop-test .before in
+    omega (arith, turn _ (at-loop .loop .input) (at-loop .loop .n) (at-read .read .last .1 .0) (at-read .read .kept .1 .0) (sym (at-got .got .given .1) ∙ at-judge .judge .ensures) (at-loop-test .loop-test .taken))
 
 pub read-input-spec : {M : Type 1} → statement M
 read-input-spec = tie.close (tie.spec Inv-loop μ-loop (search needs) (search needs) (search needs) (search needs)

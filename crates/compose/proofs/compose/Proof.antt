@@ -14,18 +14,24 @@ use Rattle.compose.proofs.compose.Statement.{statement}
 use Rattle.compose.proofs.compose.Tie as tie
 
 read-requires : tie.Need-read-requires
-read-requires c κs = (c .before .before .before .before .before .pre .0, c .before .before .before .before .before .pre .1 .cells)
+read-requires c κs = let at-start = c .before .before .before .before .before in (at-start .pre .0, at-start .pre .1 .cells)
 
 returns : tie.Need-returns
-returns c = rw (c .answer .ensures) (hand-first (formRows (record { width = c .before .before .before .before .before .before .before .before .before .before .before .args .w; bytes = c .before .before .before .before .before .before .before .before .before .before .before .args .s .now }) ++ namingRows (record { width = c .before .before .before .before .before .before .before .before .before .before .before .args .w; bytes = c .before .before .before .before .before .before .before .before .before .before .before .args .s .now })) (treeRows (record { width = c .before .before .before .before .before .before .before .before .before .before .before .args .w; bytes = c .before .before .before .before .before .before .before .before .before .before .before .args .s .now }) ++ (targetRows (record { width = c .before .before .before .before .before .before .before .before .before .before .before .args .w; bytes = c .before .before .before .before .before .before .before .before .before .before .before .args .s .now }) ++ (markRows (record { width = c .before .before .before .before .before .before .before .before .before .before .before .args .w; bytes = c .before .before .before .before .before .before .before .before .before .before .before .args .s .now }) ++ referenceRows (record { width = c .before .before .before .before .before .before .before .before .before .before .before .args .w; bytes = c .before .before .before .before .before .before .before .before .before .before .before .args .s .now })))) (c .before .before .before .before .before .read .ensures .0) (c .before .if1 .taken), λ z. absurd (c .before .if1 .taken z))
+returns c =
+    let at-if1 = c .before in let at-read = at-if1 .before .before .before .before in let at-start = at-read .before .before .before .before .before .before in
+    rw (c .answer .ensures) (hand-first (formRows (record { width = at-start .args .w; bytes = at-start .args .s .now }) ++ namingRows (record { width = at-start .args .w; bytes = at-start .args .s .now })) (treeRows (record { width = at-start .args .w; bytes = at-start .args .s .now }) ++ (targetRows (record { width = at-start .args .w; bytes = at-start .args .s .now }) ++ (markRows (record { width = at-start .args .w; bytes = at-start .args .s .now }) ++ referenceRows (record { width = at-start .args .w; bytes = at-start .args .s .now })))) (at-read .read .ensures .0) (at-if1 .if1 .taken), λ z. absurd (at-if1 .if1 .taken z))
 
 judge-tree-requires : tie.Need-judge-tree-requires
 unfolding areRefusals
-judge-tree-requires c κs = (c .before .before .before .before .before .before .before .read .ensures .1 (c .before .before .before .if1 .left), (some-bytes (record { width = c .before .before .before .before .before .before .before .before .before .before .before .before .before .args .w; bytes = c .before .before .before .before .before .before .before .before .before .before .before .before .before .args .s .now }) (row-none 1 (formRows (record { width = c .before .before .before .before .before .before .before .before .before .before .before .before .before .args .w; bytes = c .before .before .before .before .before .before .before .before .before .before .before .before .before .args .s .now }) ++ namingRows (record { width = c .before .before .before .before .before .before .before .before .before .before .before .before .before .args .w; bytes = c .before .before .before .before .before .before .before .before .before .before .before .before .before .args .s .now })) (handed-none (formRows (record { width = c .before .before .before .before .before .before .before .before .before .before .before .before .before .args .w; bytes = c .before .before .before .before .before .before .before .before .before .before .before .before .before .args .s .now }) ++ namingRows (record { width = c .before .before .before .before .before .before .before .before .before .before .before .before .before .args .w; bytes = c .before .before .before .before .before .before .before .before .before .before .before .before .before .args .s .now })) refl (c .before .before .before .before .before .before .before .read .ensures .0) (c .before .before .before .if1 .left))), record { cells = omega (arith, c .before .before .before .before .before .before .before .before .before .before .before .before .before .pre .1 .cells, c .before .before .before .before .before .before .before .read .kept .1 .1 .0); insts = c .before .before .before .before .before .before .before .before .before .before .before .before .before .pre .1 .insts; elems = c .before .before .before .before .before .before .before .before .before .before .before .before .before .pre .1 .elems }))
+judge-tree-requires c κs =
+    let at-if1 = c .before .before .before in let at-read = at-if1 .before .before .before .before in let at-start = at-read .before .before .before .before .before .before in
+    (at-read .read .ensures .1 (at-if1 .if1 .left), (some-bytes (record { width = at-start .args .w; bytes = at-start .args .s .now }) (row-none 1 (formRows (record { width = at-start .args .w; bytes = at-start .args .s .now }) ++ namingRows (record { width = at-start .args .w; bytes = at-start .args .s .now })) (handed-none (formRows (record { width = at-start .args .w; bytes = at-start .args .s .now }) ++ namingRows (record { width = at-start .args .w; bytes = at-start .args .s .now })) refl (at-read .read .ensures .0) (at-if1 .if1 .left))), record { cells = omega (arith, at-start .pre .1 .cells, at-read .read .kept .1 .1 .0); insts = at-start .pre .1 .insts; elems = at-start .pre .1 .elems }))
 
 returns-2 : tie.Need-returns-2
 unfolding areRefusals
-returns-2 c = (hand-second (formRows (record { width = c .before .before .before .before .before .before .before .before .before .before .before .before .before .before .before .before .before .before .before .before .args .w; bytes = c .before .before .before .before .before .before .before .before .before .before .before .before .before .before .before .before .before .before .before .before .args .s .now }) ++ namingRows (record { width = c .before .before .before .before .before .before .before .before .before .before .before .before .before .before .before .before .before .before .before .before .args .w; bytes = c .before .before .before .before .before .before .before .before .before .before .before .before .before .before .before .before .before .before .before .before .args .s .now })) (treeRows (record { width = c .before .before .before .before .before .before .before .before .before .before .before .before .before .before .before .before .before .before .before .before .args .w; bytes = c .before .before .before .before .before .before .before .before .before .before .before .before .before .before .before .before .before .before .before .before .args .s .now }) ++ (targetRows (record { width = c .before .before .before .before .before .before .before .before .before .before .before .before .before .before .before .before .before .before .before .before .args .w; bytes = c .before .before .before .before .before .before .before .before .before .before .before .before .before .before .before .before .before .before .before .before .args .s .now }) ++ (markRows (record { width = c .before .before .before .before .before .before .before .before .before .before .before .before .before .before .before .before .before .before .before .before .args .w; bytes = c .before .before .before .before .before .before .before .before .before .before .before .before .before .before .before .before .before .before .before .before .args .s .now }) ++ referenceRows (record { width = c .before .before .before .before .before .before .before .before .before .before .before .before .before .before .before .before .before .before .before .before .args .w; bytes = c .before .before .before .before .before .before .before .before .before .before .before .before .before .before .before .before .before .before .before .before .args .s .now })))) (handed-none (formRows (record { width = c .before .before .before .before .before .before .before .before .before .before .before .before .before .before .before .before .before .before .before .before .args .w; bytes = c .before .before .before .before .before .before .before .before .before .before .before .before .before .before .before .before .before .before .before .before .args .s .now }) ++ namingRows (record { width = c .before .before .before .before .before .before .before .before .before .before .before .before .before .before .before .before .before .before .before .before .args .w; bytes = c .before .before .before .before .before .before .before .before .before .before .before .before .before .before .before .before .before .before .before .before .args .s .now })) refl (c .before .before .before .before .before .before .before .before .before .before .before .before .before .before .read .ensures .0) (c .before .before .before .before .before .before .before .before .before .before .if1 .left)) (c .before .before .before .before .before .before .judge-tree .ensures .0), c .before .before .before .before .before .before .judge-tree .ensures .1)
+returns-2 c =
+    let at-judge-tree = c .before .before .before .before .before .before in let at-if1 = at-judge-tree .before .before .before .before in let at-read = at-if1 .before .before .before .before in let at-start = at-read .before .before .before .before .before .before in
+    (hand-second (formRows (record { width = at-start .args .w; bytes = at-start .args .s .now }) ++ namingRows (record { width = at-start .args .w; bytes = at-start .args .s .now })) (treeRows (record { width = at-start .args .w; bytes = at-start .args .s .now }) ++ (targetRows (record { width = at-start .args .w; bytes = at-start .args .s .now }) ++ (markRows (record { width = at-start .args .w; bytes = at-start .args .s .now }) ++ referenceRows (record { width = at-start .args .w; bytes = at-start .args .s .now })))) (handed-none (formRows (record { width = at-start .args .w; bytes = at-start .args .s .now }) ++ namingRows (record { width = at-start .args .w; bytes = at-start .args .s .now })) refl (at-read .read .ensures .0) (at-if1 .if1 .left)) (at-judge-tree .judge-tree .ensures .0), at-judge-tree .judge-tree .ensures .1)
 
 pub compose-spec : {M : Type 1} → statement M
 compose-spec = tie.close (tie.spec read-requires (search needs) (search needs) returns judge-tree-requires

@@ -12,11 +12,15 @@ use Rattle.composer.proofs.flatten.Tie as tie
 
 returns : tie.Need-returns
 unfolding recipeOf nameWidth
-returns c = (c .refusal .ensures ∙ compose-refuses (recipeOf (c .before .before .before .before .before .before .before .before .before .before .before .args .recipe .now)) _ _ (c .before .before .before .before .before .before .before .before .before .before .before .args .table .now) (c .before .before .before .before .before .compose .ensures .0) (c .before .if1 .taken), compose-keeps (recipeOf (c .before .before .before .before .before .before .before .before .before .before .before .args .recipe .now)) _ _ (c .before .before .before .before .before .before .before .before .before .before .before .args .table .now) (c .before .before .before .before .before .compose .ensures .0) (c .before .if1 .taken))
+returns c =
+    let at-if1 = c .before in let at-compose = at-if1 .before .before .before .before in let at-start = at-compose .before .before .before .before .before .before in
+    (c .refusal .ensures ∙ compose-refuses (recipeOf (at-start .args .recipe .now)) _ _ (at-start .args .table .now) (at-compose .compose .ensures .0) (at-if1 .if1 .taken), compose-keeps (recipeOf (at-start .args .recipe .now)) _ _ (at-start .args .table .now) (at-compose .compose .ensures .0) (at-if1 .if1 .taken))
 
 flatten-composed-requires : tie.Need-flatten-composed-requires
 unfolding recipeOf nameWidth areRefusals
-flatten-composed-requires c κs = (c .before .before .before .before .before .before .before .before .compose .ensures .1 (c .before .before .before .before .if1 .left), handed-none (refusalRows (recipeOf (c .before .before .before .before .before .before .before .before .before .before .before .before .before .before .args .recipe .now))) refl (c .before .before .before .before .before .before .before .before .compose .ensures .0) (c .before .before .before .before .if1 .left))
+flatten-composed-requires c κs =
+    let at-if1 = c .before .before .before .before in let at-compose = at-if1 .before .before .before .before in let at-start = at-compose .before .before .before .before .before .before in
+    (at-compose .compose .ensures .1 (at-if1 .if1 .left), handed-none (refusalRows (recipeOf (at-start .args .recipe .now))) refl (at-compose .compose .ensures .0) (at-if1 .if1 .left))
 
 returns-2 : tie.Need-returns-2
 unfolding recipeOf nameWidth

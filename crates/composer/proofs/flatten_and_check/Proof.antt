@@ -10,14 +10,17 @@ use Rattle.composer.proofs.flatten_and_check.Tie as tie
 
 part-bandrolt-check-table-end : tie.Need-part-bandrolt-check-table-end
 unfolding recipeOf nameWidth
-part-bandrolt-check-table-end c = omega (arith, bytes-fit (recipeOf (c .before .before .before .before .before .before .before .args .recipe .now)) twelve (c .before .before .before .before .before .before .before .args .table .now) _ (c .before .before .before .flatten .result) (c .before .before .before .flatten .ensures .0) (c .before .before .before .flatten .ensures .1))
+part-bandrolt-check-table-end c =
+    let at-flatten = c .before .before .before in let at-start = at-flatten .before .before .before .before in
+    omega (arith, bytes-fit (recipeOf (at-start .args .recipe .now)) twelve (at-start .args .table .now) _ (at-flatten .flatten .result) (at-flatten .flatten .ensures .0) (at-flatten .flatten .ensures .1))
 
 returns : tie.Need-returns
 unfolding recipeOf nameWidth
-returns c = (
-  check-answers (recipeOf (c .before .before .before .before .before .before .before .before .before .args .recipe .now)) twelve (c .before .before .before .before .before .before .before .before .before .args .table .now) _ (c .before .before .before .before .before .flatten .result) (c .before .before .before .before .before .flatten .ensures .0) (c .before .before .before .before .before .flatten .ensures .1) _ (c .before .before .before .before .before .flatten .result .bytes - 0) (omega arith) (c .bandrolt-check-table .ensures),
-  c .before .before .before .before .before .flatten .ensures .1,
-)
+returns c =
+    let at-flatten = c .before .before .before .before .before in let at-start = at-flatten .before .before .before .before in (
+      check-answers (recipeOf (at-start .args .recipe .now)) twelve (at-start .args .table .now) _ (at-flatten .flatten .result) (at-flatten .flatten .ensures .0) (at-flatten .flatten .ensures .1) _ (at-flatten .flatten .result .bytes - 0) (omega arith) (c .bandrolt-check-table .ensures),
+      at-flatten .flatten .ensures .1,
+    )
 
 pub flatten-and-check-spec : {M : Type 1} → statement M
 flatten-and-check-spec = tie.close (tie.spec (search needs) (search needs) (search needs) part-bandrolt-check-table-end

@@ -18,13 +18,19 @@ mul-bytes : tie.Need-mul-bytes
 mul-bytes c = omega (arith, bytes-few (c .before .before .before .before .before .before .before .pre .0) (c .before .count-survivors .ensures) (c .record-width .ensures))
 
 returns : tie.Need-returns
-returns c = (c .refusal .ensures ∙ room-refuses (record { width = c .before .before .before .before .before .before .before .before .before .args .w; bytes = c .before .before .before .before .before .before .before .before .before .args .s .now }) (c .before .before .before .before .before .before .before .before .before .pre .1) (c .before .before .before .count-survivors .ensures) (c .before .before .record-width .ensures) (c .before .before .before .before .before .before .before .before .before .args .table .now) (c .before .if1 .taken), room-keeps (record { width = c .before .before .before .before .before .before .before .before .before .args .w; bytes = c .before .before .before .before .before .before .before .before .before .args .s .now }) (c .before .before .before .before .before .before .before .before .before .pre .1) (c .before .before .before .count-survivors .ensures) (c .before .before .record-width .ensures) (c .before .before .before .before .before .before .before .before .before .args .table .now) (c .before .if1 .taken))
+returns c =
+    let at-if1 = c .before in let at-record-width = at-if1 .before in let at-count-survivors = at-record-width .before in let at-start = at-count-survivors .before .before .before .before .before .before in
+    (c .refusal .ensures ∙ room-refuses (record { width = at-start .args .w; bytes = at-start .args .s .now }) (at-start .pre .1) (at-count-survivors .count-survivors .ensures) (at-record-width .record-width .ensures) (at-start .args .table .now) (at-if1 .if1 .taken), room-keeps (record { width = at-start .args .w; bytes = at-start .args .s .now }) (at-start .pre .1) (at-count-survivors .count-survivors .ensures) (at-record-width .record-width .ensures) (at-start .args .table .now) (at-if1 .if1 .taken))
 
 write-all-requires : tie.Need-write-all-requires
-write-all-requires c κs = ((c .before .before .before .before .before .before .before .before .before .pre .0), enough (record { width = c .before .before .before .before .before .before .before .before .before .args .w; bytes = c .before .before .before .before .before .before .before .before .before .args .s .now }) (c .before .before .before .before .before .before .before .before .before .pre .1) (c .before .before .before .count-survivors .ensures) (c .before .before .record-width .ensures) (c .before .before .before .before .before .before .before .before .before .args .table .now) (c .before .if1 .left))
+write-all-requires c κs =
+    let at-if1 = c .before in let at-record-width = at-if1 .before in let at-count-survivors = at-record-width .before in let at-start = at-count-survivors .before .before .before .before .before .before in
+    ((at-start .pre .0), enough (record { width = at-start .args .w; bytes = at-start .args .s .now }) (at-start .pre .1) (at-count-survivors .count-survivors .ensures) (at-record-width .record-width .ensures) (at-start .args .table .now) (at-if1 .if1 .left))
 
 returns-2 : tie.Need-returns-2
-returns-2 c = (flattened (record { width = c .before .before .before .before .before .before .before .before .before .before .before .before .args .w; bytes = c .before .before .before .before .before .before .before .before .before .before .before .before .args .s .now }) (c .before .before .before .before .before .before .before .before .before .before .before .before .pre .1) (c .before .before .before .before .before .before .count-survivors .ensures) (c .before .before .before .before .before .record-width .ensures) (c .before .before .before .before .before .before .before .before .before .before .before .before .args .table .now) (c .before .before .before .before .if1 .left), table-written (record { width = c .before .before .before .before .before .before .before .before .before .before .before .before .args .w; bytes = c .before .before .before .before .before .before .before .before .before .before .before .before .args .s .now }) (c .before .before .before .before .before .before .before .before .before .before .before .before .pre .1) (c .before .before .before .before .before .before .count-survivors .ensures) (c .before .before .before .before .before .record-width .ensures) (c .before .before .before .before .before .before .before .before .before .before .before .before .args .table .now) (c .before .before .before .before .if1 .left) _ (c .before .before .write-all .ensures))
+returns-2 c =
+    let at-write-all = c .before .before in let at-if1 = at-write-all .before .before in let at-record-width = at-if1 .before in let at-count-survivors = at-record-width .before in let at-start = at-count-survivors .before .before .before .before .before .before in
+    (flattened (record { width = at-start .args .w; bytes = at-start .args .s .now }) (at-start .pre .1) (at-count-survivors .count-survivors .ensures) (at-record-width .record-width .ensures) (at-start .args .table .now) (at-if1 .if1 .left), table-written (record { width = at-start .args .w; bytes = at-start .args .s .now }) (at-start .pre .1) (at-count-survivors .count-survivors .ensures) (at-record-width .record-width .ensures) (at-start .args .table .now) (at-if1 .if1 .left) _ (at-write-all .write-all .ensures))
 
 pub flatten-composed-spec : {M : Type 1} → statement M
 flatten-composed-spec = tie.close (tie.spec count-survivors-requires record-width-requires mul-bytes (search needs)

@@ -13,13 +13,19 @@ put-zeros-requires : tie.Need-put-zeros-requires
 put-zeros-requires c κs = omega (arith, c .field-width .ensures, c .before .before .before .before .before .before .before .pre .1 .1 .1)
 
 returns : tie.Need-returns
-returns c = blank-written (record { width = c .before .before .before .before .before .before .before .before .before .before .args .w; bytes = c .before .before .before .before .before .before .before .before .before .before .args .s .now }) _ _ _ _ (c .before .before .before .before .before .if1 .taken) (c .before .before .before .field-width .ensures) (c .before .before .put-zeros .ensures)
+returns c =
+    let at-put-zeros = c .before .before in let at-field-width = at-put-zeros .before in let at-if1 = at-field-width .before .before in let at-start = at-if1 .before .before .before .before .before in
+    blank-written (record { width = at-start .args .w; bytes = at-start .args .s .now }) _ _ _ _ (at-if1 .if1 .taken) (at-field-width .field-width .ensures) (at-put-zeros .put-zeros .ensures)
 
 put-name-requires : tie.Need-put-name-requires
-put-name-requires c κs = let n = c .before .before .before .before .before .before .pre .1 .1 .0 (c .before .if1 .left) in (c .before .before .before .before .before .before .pre .0, (c .before .before .before .before .before .before .pre .1 .0, (n .0, (n .1, c .before .before .before .before .before .before .pre .1 .1 .1))))
+put-name-requires c κs =
+    let at-if1 = c .before in let at-start = at-if1 .before .before .before .before .before in
+    let n = at-start .pre .1 .1 .0 (at-if1 .if1 .left) in (at-start .pre .0, (at-start .pre .1 .0, (n .0, (n .1, at-start .pre .1 .1 .1))))
 
 returns-2 : tie.Need-returns-2
-returns-2 c = name-written (record { width = c .before .before .before .before .before .before .before .before .before .args .w; bytes = c .before .before .before .before .before .before .before .before .before .args .s .now }) _ _ _ _ (c .before .before .before .before .if1 .left) (c .before .before .put-name .ensures)
+returns-2 c =
+    let at-put-name = c .before .before in let at-if1 = at-put-name .before .before in let at-start = at-if1 .before .before .before .before .before in
+    name-written (record { width = at-start .args .w; bytes = at-start .args .s .now }) _ _ _ _ (at-if1 .if1 .left) (at-put-name .put-name .ensures)
 
 pub put-field-spec : {M : Type 1} → statement M
 put-field-spec = tie.close (tie.spec field-width-requires put-zeros-requires (search needs) returns put-name-requires

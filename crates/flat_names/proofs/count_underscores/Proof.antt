@@ -20,13 +20,17 @@ loop-holds : tie.Need-loop-holds Inv-loop μ-loop
 loop-holds c = (omega arith, λ j h. absurd (omega arith))
 
 returns : tie.Need-returns Inv-loop μ-loop
-returns c = counted (c .before .before .before .before .args .s .now) (c .before .before .before .before .args .a) (c .before .before .before .before .args .n) (c .before .before .before .loop .k) (c .before .before .before .before .pre) (c .before .before .before .loop .inv .0) (c .before .before .before .loop .inv .1) (λ l. c .if1 .taken)
+returns c =
+    let at-loop = c .before .before .before in let at-start = at-loop .before in
+    counted (at-start .args .s .now) (at-start .args .a) (at-start .args .n) (at-loop .loop .k) (at-start .pre) (at-loop .loop .inv .0) (at-loop .loop .inv .1) (λ l. c .if1 .taken)
 
 loop-again : tie.Need-loop-again Inv-loop μ-loop
 loop-again c = (omega arith, below-more _ _ (c .before .before .before .loop .inv .1) (c .if1 .left))
 
 returns-2 : tie.Need-returns-2 Inv-loop μ-loop
-returns-2 c = counted (c .before .before .args .s .now) (c .before .before .args .a) (c .before .before .args .n) (c .before .loop .k) (c .before .before .pre) (c .before .loop .inv .0) (c .before .loop .inv .1) (λ l. absurd (omega (arith, c .loop-test .left)))
+returns-2 c =
+    let at-loop = c .before in let at-start = at-loop .before in
+    counted (at-start .args .s .now) (at-start .args .a) (at-start .args .n) (at-loop .loop .k) (at-start .pre) (at-loop .loop .inv .0) (at-loop .loop .inv .1) (λ l. absurd (omega (arith, c .loop-test .left)))
 
 pub count-underscores-spec : {M : Type 1} → statement M
 count-underscores-spec = tie.close (tie.spec Inv-loop μ-loop loop-holds (search needs) (search needs) returns

@@ -6,7 +6,7 @@ use Rattle.flat_names.proofs.name_length.Statement.{statement}
 use Rattle.flat_names.proofs.name_length.Tie as tie
 
 returns : tie.Need-returns
-returns c = name-cut (record { width = c .before .before .before .args .w; bytes = c .before .before .before .args .s .now }) (c .before .before .before .args .p) _ (c .unpadded .ensures)
+returns c = let at-start = c .before .before .before in name-cut (record { width = at-start .args .w; bytes = at-start .args .s .now }) (at-start .args .p) _ (c .unpadded .ensures)
 
 pub name-length-spec : {M : Type 1} → statement M
 name-length-spec = tie.close (tie.spec (search needs) (search needs) (search needs) (search needs) (search needs)

@@ -13,7 +13,7 @@ mul-queue : tie.Need-mul-queue
 mul-queue c = omega (arith, tail-low (c .before .before .pre .0))
 
 slice-write-queue : tie.Need-slice-write-queue
-slice-write-queue c = omega (arith, queue-room (c .before .before .pre .0) _ (c .before .before .pre .1) (c .if1 .left), c .before .before .pre .0 .queues)
+slice-write-queue c = let at-start = c .before .before in omega (arith, queue-room (at-start .pre .0) _ (at-start .pre .1) (c .if1 .left), at-start .pre .0 .queues)
 
 add-result : tie.Need-add-result
 add-result c = omega (arith, tail-low (c .before .before .pre .0))

@@ -17,25 +17,33 @@ abbrev μ-loop : tie.MeasureT-loop
 μ-loop s w t mark₀ queue₀ tail e end₀ p₀ mark queue end p = length s - p
 
 next-submodel-requires : tie.Need-next-submodel-requires Inv-loop μ-loop
-next-submodel-requires c κs = ((c .before .before .before .before .pre .0), c .before .before .before .before .pre .1, definition-place _ _ (c .before .before .before .before .pre .1) .0, omega arith)
+next-submodel-requires c κs = let at-start = c .before .before .before .before in ((at-start .pre .0), at-start .pre .1, definition-place _ _ (at-start .pre .1) .0, omega arith)
 
 loop-holds : tie.Need-loop-holds Inv-loop μ-loop
 loop-holds c = expand-start (c .before .before .before .before .before .pre .2) (c .next-submodel .ensures)
 
 cell-requires : tie.Need-cell-requires Inv-loop μ-loop
-cell-requires c κs = omega (arith, linked-room (c .before .before .before .before .before .before .before .before .before .pre .0) _ (through-place (c .before .before .before .loop .inv .through) (c .before .before .before .before .before .before .before .before .before .pre .0) (c .before .before .loop-test .taken)))
+cell-requires c κs =
+    let at-loop-test = c .before .before in let at-loop = at-loop-test .before in let at-start = at-loop .before .before .before .before .before .before in
+    omega (arith, linked-room (at-start .pre .0) _ (through-place (at-loop .loop .inv .through) (at-start .pre .0) (at-loop-test .loop-test .taken)))
 
 enqueue-requires : tie.Need-enqueue-requires Inv-loop μ-loop
-enqueue-requires c κs = (c .before .before .before .before .loop .inv .marked .right, omega (arith, c .cell .ensures .0, definition-low _ _ (through-in (c .before .before .before .before .loop .inv .through) (c .before .before .before .before .before .before .before .before .before .before .pre .0) (c .before .before .before .loop-test .taken)), (c .before .before .before .before .before .before .before .before .before .before .pre .0) .numbered .shadowed .short))
+enqueue-requires c κs =
+    let at-loop-test = c .before .before .before in let at-loop = at-loop-test .before in let at-start = at-loop .before .before .before .before .before .before in
+    (at-loop .loop .inv .marked .right, omega (arith, c .cell .ensures .0, definition-low _ _ (through-in (at-loop .loop .inv .through) (at-start .pre .0) (at-loop-test .loop-test .taken)), (at-start .pre .0) .numbered .shadowed .short))
 
 next-submodel-requires-2 : tie.Need-next-submodel-requires-2 Inv-loop μ-loop
-next-submodel-requires-2 c κs = ((c .before .before .before .before .before .before .before .before .before .before .before .before .before .before .before .pre .0), c .before .before .before .before .before .before .before .before .before .before .before .before .before .before .before .pre .1, (through-place (c .before .before .before .before .before .before .before .before .before .loop .inv .through) (c .before .before .before .before .before .before .before .before .before .before .before .before .before .before .before .pre .0) (c .before .before .before .before .before .before .before .before .loop-test .taken)), through-after (c .before .before .before .before .before .before .before .before .before .loop .inv .through) (c .before .before .before .before .before .before .before .before .before .before .before .before .before .before .before .pre .0) (c .before .before .before .before .before .before .before .before .loop-test .taken))
+next-submodel-requires-2 c κs =
+    let at-loop-test = c .before .before .before .before .before .before .before .before in let at-loop = at-loop-test .before in let at-start = at-loop .before .before .before .before .before .before in
+    ((at-start .pre .0), at-start .pre .1, (through-place (at-loop .loop .inv .through) (at-start .pre .0) (at-loop-test .loop-test .taken)), through-after (at-loop .loop .inv .through) (at-start .pre .0) (at-loop-test .loop-test .taken))
 
 loop-less : tie.Need-loop-less Inv-loop μ-loop
 loop-less c = omega (arith, c .next-submodel2 .ensures .after, c .next-submodel2 .ensures .within)
 
 loop-again : tie.Need-loop-again Inv-loop μ-loop
-loop-again c = expand-on (c .before .before .before .before .before .before .before .before .before .before .loop .inv) (c .before .before .before .before .before .before .before .before .before .before .before .before .before .before .before .before .pre .0) (c .before .before .before .before .before .before .before .before .before .loop-test .taken) (c .before .before .before .before .before .before .cell .ensures .0) (c .before .before .before .before .before .enqueue .ensures) (c .next-submodel2 .ensures)
+loop-again c =
+    let at-enqueue = c .before .before .before .before .before in let at-cell = at-enqueue .before in let at-loop-test = at-cell .before .before .before in let at-loop = at-loop-test .before in let at-start = at-loop .before .before .before .before .before .before in
+    expand-on (at-loop .loop .inv) (at-start .pre .0) (at-loop-test .loop-test .taken) (at-cell .cell .ensures .0) (at-enqueue .enqueue .ensures) (c .next-submodel2 .ensures)
 
 same-length : tie.Need-same-length Inv-loop μ-loop
 same-length c = c .before .loop .inv .marked .right .marks ∙ sym (c .before .before .before .before .before .before .before .pre .2 .marks)

@@ -29,28 +29,44 @@ shared-slice-read-if1 : tie.Need-shared-slice-read-if1 Inv-loop μ-loop
 shared-slice-read-if1 c = c .before .before .before .loop-test .taken
 
 add-p : tie.Need-add-p Inv-loop μ-loop
-add-p c = omega (arith, on-fits (here _ _ _ (c .before .before .before .before .before .before .before .before .pre .numbered .shadowed .whole) (c .before .before .before .before .before .loop .inv .0) (c .before .before .before .before .loop-test .taken)) (c .before .before .record-length .ensures))
+add-p c =
+    let at-record-length = c .before .before in let at-loop-test = at-record-length .before .before in let at-loop = at-loop-test .before in let at-start = at-loop .before .before .before in
+    omega (arith, on-fits (here _ _ _ (at-start .pre .numbered .shadowed .whole) (at-loop .loop .inv .0) (at-loop-test .loop-test .taken)) (at-record-length .record-length .ensures))
 
 loop-less : tie.Need-loop-less Inv-loop μ-loop
-loop-less c = omega (arith, on-fits (here _ _ _ (c .before .before .before .before .before .before .before .before .pre .numbered .shadowed .whole) (c .before .before .before .before .before .loop .inv .0) (c .before .before .before .before .loop-test .taken)) (c .before .before .record-length .ensures), on-more _ _ (c .before .before .record-length .ensures))
+loop-less c =
+    let at-record-length = c .before .before in let at-loop-test = at-record-length .before .before in let at-loop = at-loop-test .before in let at-start = at-loop .before .before .before in
+    omega (arith, on-fits (here _ _ _ (at-start .pre .numbered .shadowed .whole) (at-loop .loop .inv .0) (at-loop-test .loop-test .taken)) (at-record-length .record-length .ensures), on-more _ _ (at-record-length .record-length .ensures))
 
 loop-again : tie.Need-loop-again Inv-loop μ-loop
-loop-again c = (going-on (here _ _ _ (c .before .before .before .before .before .before .before .before .pre .numbered .shadowed .whole) (c .before .before .before .before .before .loop .inv .0) (c .before .before .before .before .loop-test .taken)) (no-model _ _ (c .if1 .taken)) (c .before .before .record-length .ensures), on-fits (here _ _ _ (c .before .before .before .before .before .before .before .before .pre .numbered .shadowed .whole) (c .before .before .before .before .before .loop .inv .0) (c .before .before .before .before .loop-test .taken)) (c .before .before .record-length .ensures))
+loop-again c =
+    let at-record-length = c .before .before in let at-loop-test = at-record-length .before .before in let at-loop = at-loop-test .before in let at-start = at-loop .before .before .before in
+    (going-on (here _ _ _ (at-start .pre .numbered .shadowed .whole) (at-loop .loop .inv .0) (at-loop-test .loop-test .taken)) (no-model _ _ (c .if1 .taken)) (at-record-length .record-length .ensures), on-fits (here _ _ _ (at-start .pre .numbered .shadowed .whole) (at-loop .loop .inv .0) (at-loop-test .loop-test .taken)) (at-record-length .record-length .ensures))
 
 reaches-itself-requires : tie.Need-reaches-itself-requires Inv-loop μ-loop
-reaches-itself-requires c κs = (c .before .before .before .before .before .before .before .before .pre, model-definition _ _ ((here _ _ _ (c .before .before .before .before .before .before .before .before .pre .numbered .shadowed .whole) (c .before .before .before .before .before .loop .inv .0) (c .before .before .before .before .loop-test .taken)) .place) (c .if1 .left))
+reaches-itself-requires c κs =
+    let at-loop-test = c .before .before .before .before in let at-loop = at-loop-test .before in let at-start = at-loop .before .before .before in
+    (at-start .pre, model-definition _ _ ((here _ _ _ (at-start .pre .numbered .shadowed .whole) (at-loop .loop .inv .0) (at-loop-test .loop-test .taken)) .place) (c .if1 .left))
 
 returns : tie.Need-returns Inv-loop μ-loop
-returns c = at-found (fault-6 _ ∙ going-hit (here _ _ _ (c .before .before .before .before .before .before .before .before .before .before .pre .numbered .shadowed .whole) (c .before .before .before .before .before .before .before .loop .inv .0) (c .before .before .before .before .before .before .loop-test .taken)) (cycle-is _ _ (c .before .before .if1 .left) (c .before .reaches-itself .ensures) (c .if2 .taken)))
+returns c =
+    let at-reaches-itself = c .before in let at-if1 = at-reaches-itself .before in let at-loop-test = at-if1 .before .before .before .before in let at-loop = at-loop-test .before in let at-start = at-loop .before .before .before in
+    at-found (fault-6 _ ∙ going-hit (here _ _ _ (at-start .pre .numbered .shadowed .whole) (at-loop .loop .inv .0) (at-loop-test .loop-test .taken)) (cycle-is _ _ (at-if1 .if1 .left) (at-reaches-itself .reaches-itself .ensures) (c .if2 .taken)))
 
 add-p-2 : tie.Need-add-p-2 Inv-loop μ-loop
-add-p-2 c = omega (arith, on-fits (here _ _ _ (c .before .before .before .before .before .before .before .before .before .before .pre .numbered .shadowed .whole) (c .before .before .before .before .before .before .before .loop .inv .0) (c .before .before .before .before .before .before .loop-test .taken)) (c .before .before .before .before .record-length .ensures))
+add-p-2 c =
+    let at-record-length = c .before .before .before .before in let at-loop-test = at-record-length .before .before in let at-loop = at-loop-test .before in let at-start = at-loop .before .before .before in
+    omega (arith, on-fits (here _ _ _ (at-start .pre .numbered .shadowed .whole) (at-loop .loop .inv .0) (at-loop-test .loop-test .taken)) (at-record-length .record-length .ensures))
 
 loop-less-2 : tie.Need-loop-less-2 Inv-loop μ-loop
-loop-less-2 c = omega (arith, on-fits (here _ _ _ (c .before .before .before .before .before .before .before .before .before .before .pre .numbered .shadowed .whole) (c .before .before .before .before .before .before .before .loop .inv .0) (c .before .before .before .before .before .before .loop-test .taken)) (c .before .before .before .before .record-length .ensures), on-more _ _ (c .before .before .before .before .record-length .ensures))
+loop-less-2 c =
+    let at-record-length = c .before .before .before .before in let at-loop-test = at-record-length .before .before in let at-loop = at-loop-test .before in let at-start = at-loop .before .before .before in
+    omega (arith, on-fits (here _ _ _ (at-start .pre .numbered .shadowed .whole) (at-loop .loop .inv .0) (at-loop-test .loop-test .taken)) (at-record-length .record-length .ensures), on-more _ _ (at-record-length .record-length .ensures))
 
 loop-again-2 : tie.Need-loop-again-2 Inv-loop μ-loop
-loop-again-2 c = (going-on (here _ _ _ (c .before .before .before .before .before .before .before .before .before .before .pre .numbered .shadowed .whole) (c .before .before .before .before .before .before .before .loop .inv .0) (c .before .before .before .before .before .before .loop-test .taken)) (cycle-is _ _ (c .before .before .if1 .left) (c .before .reaches-itself .ensures) (c .if2 .left)) (c .before .before .before .before .record-length .ensures), on-fits (here _ _ _ (c .before .before .before .before .before .before .before .before .before .before .pre .numbered .shadowed .whole) (c .before .before .before .before .before .before .before .loop .inv .0) (c .before .before .before .before .before .before .loop-test .taken)) (c .before .before .before .before .record-length .ensures))
+loop-again-2 c =
+    let at-reaches-itself = c .before in let at-if1 = at-reaches-itself .before in let at-record-length = at-if1 .before .before in let at-loop-test = at-record-length .before .before in let at-loop = at-loop-test .before in let at-start = at-loop .before .before .before in
+    (going-on (here _ _ _ (at-start .pre .numbered .shadowed .whole) (at-loop .loop .inv .0) (at-loop-test .loop-test .taken)) (cycle-is _ _ (at-if1 .if1 .left) (at-reaches-itself .reaches-itself .ensures) (c .if2 .left)) (at-record-length .record-length .ensures), on-fits (here _ _ _ (at-start .pre .numbered .shadowed .whole) (at-loop .loop .inv .0) (at-loop-test .loop-test .taken)) (at-record-length .record-length .ensures))
 
 returns-2 : tie.Need-returns-2 Inv-loop μ-loop
 returns-2 c = nothing-found (fault-6 _ ∙ going-end (c .before .loop .inv .0) (c .loop-test .left))

@@ -16,7 +16,7 @@ abbrev μ-loop : tie.MeasureT-loop
 μ-loop s w t d mark₀ queue₀ tail₀ head₀ mark queue tail head = 1261 - head
 
 expand-requires : tie.Need-expand-requires Inv-loop μ-loop
-expand-requires c κs = (c .before .before .before .before .pre .0, c .before .before .before .before .pre .1, marks-start)
+expand-requires c κs = let at-start = c .before .before .before .before in (at-start .pre .0, at-start .pre .1, marks-start)
 
 loop-holds : tie.Need-loop-holds Inv-loop μ-loop
 loop-holds c = search-start (c .before .before .expand .ensures)
@@ -34,7 +34,9 @@ slice-aggregate-expand-4 : tie.Need-slice-aggregate-expand-4 Inv-loop μ-loop
 slice-aggregate-expand-4 c = sym (c .before .before .before .before .loop .inv .right .queues)
 
 expand-requires-2 : tie.Need-expand-requires-2 Inv-loop μ-loop
-expand-requires-2 c κs = (c .before .before .before .before .before .before .before .before .before .before .before .before .pre .0, rw (c .before .before .wide .ensures .0) (head-in (c .before .before .before .before .loop .inv) (c .before .before .before .loop-test .taken)), c .before .before .before .before .loop .inv .right)
+expand-requires-2 c κs =
+    let at-wide = c .before .before in let at-loop-test = at-wide .before in let at-loop = at-loop-test .before in let at-start = at-loop .before .before .before .before .before .before .before .before in
+    (at-start .pre .0, rw (at-wide .wide .ensures .0) (head-in (at-loop .loop .inv) (at-loop-test .loop-test .taken)), at-loop .loop .inv .right)
 
 add-head : tie.Need-add-head Inv-loop μ-loop
 add-head c = omega (arith, tail-low (c .before .before .before .before .before .before .before .loop .inv .right))
@@ -43,13 +45,17 @@ loop-less : tie.Need-loop-less Inv-loop μ-loop
 loop-less c = omega (arith, tail-low (c .before .before .before .before .before .before .before .loop .inv .right))
 
 loop-again : tie.Need-loop-again Inv-loop μ-loop
-loop-again c = search-more (c .before .before .before .before .before .before .before .loop .inv) (c .before .before .before .before .before .before .loop-test .taken) (c .before .before .before .before .before .wide .ensures .0) (c .before .before .expand2 .ensures)
+loop-again c =
+    let at-expand2 = c .before .before in let at-wide = at-expand2 .before .before .before in let at-loop-test = at-wide .before in let at-loop = at-loop-test .before in
+    search-more (at-loop .loop .inv) (at-loop-test .loop-test .taken) (at-wide .wide .ensures .0) (at-expand2 .expand2 .ensures)
 
 array-read-result : tie.Need-array-read-result Inv-loop μ-loop
-array-read-result c = omega (arith, definition-low _ _ (c .before .before .before .before .before .before .before .before .before .pre .1), (c .before .before .before .before .before .before .before .before .before .pre .0) .numbered .shadowed .short)
+array-read-result c = let at-start = c .before .before .before .before .before .before .before .before .before in omega (arith, definition-low _ _ (at-start .pre .1), (at-start .pre .0) .numbered .shadowed .short)
 
 returns : tie.Need-returns Inv-loop μ-loop
-returns c = search-end (c .before .loop .inv) (c .before .before .before .before .before .before .before .before .before .pre .0) (c .loop-test .left) (c .before .before .before .before .before .before .before .before .before .pre .1)
+returns c =
+    let at-loop = c .before in let at-start = at-loop .before .before .before .before .before .before .before .before in
+    search-end (at-loop .loop .inv) (at-start .pre .0) (c .loop-test .left) (at-start .pre .1)
 
 pub reaches-itself-spec : {M : Type 1} → statement M
 reaches-itself-spec = tie.close (tie.spec Inv-loop μ-loop (search needs) (search needs) expand-requires loop-holds

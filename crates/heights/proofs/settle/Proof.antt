@@ -24,16 +24,24 @@ loop-holds : tie.Need-loop-holds Inv-loop μ-loop
 loop-holds c = settles-start (c .before .before .clear-heights .ensures .1)
 
 cell-requires : tie.Need-cell-requires Inv-loop μ-loop
-cell-requires c κs = omega (arith, linked-room (settles-linked (linked-heights (c .before .before .before .before .before .clear-heights .ensures .0) (c .before .before .before .before .before .before .before .before .before .pre)) (c .before .before .loop .inv)) _ (settles-place (linked-heights (c .before .before .before .before .before .clear-heights .ensures .0) (c .before .before .before .before .before .before .before .before .before .pre)) (c .before .before .loop .inv) (c .before .loop-test .taken)))
+cell-requires c κs =
+    let at-loop-test = c .before in let at-loop = at-loop-test .before in let at-clear-heights = at-loop .before .before .before in let at-start = at-clear-heights .before .before .before .before in
+    omega (arith, linked-room (settles-linked (linked-heights (at-clear-heights .clear-heights .ensures .0) (at-start .pre)) (at-loop .loop .inv)) _ (settles-place (linked-heights (at-clear-heights .clear-heights .ensures .0) (at-start .pre)) (at-loop .loop .inv) (at-loop-test .loop-test .taken)))
 
 settle-from-requires : tie.Need-settle-from-requires Inv-loop μ-loop
-settle-from-requires c κs = settles-enters (linked-heights (c .before .before .before .before .before .before .before .clear-heights .ensures .0) (c .before .before .before .before .before .before .before .before .before .before .before .pre)) (c .before .before .before .before .loop .inv) (c .before .before .before .loop-test .taken) (c .before .cell .ensures .0)
+settle-from-requires c κs =
+    let at-cell = c .before in let at-loop-test = at-cell .before .before in let at-loop = at-loop-test .before in let at-clear-heights = at-loop .before .before .before in let at-start = at-clear-heights .before .before .before .before in
+    settles-enters (linked-heights (at-clear-heights .clear-heights .ensures .0) (at-start .pre)) (at-loop .loop .inv) (at-loop-test .loop-test .taken) (at-cell .cell .ensures .0)
 
 same-length : tie.Need-same-length Inv-loop μ-loop
-same-length c = c .before .before .before .settle-from .ensures .0 .long ∙ c .before .before .before .before .before .before .before .before .loop .inv .walking .kept .long ∙ c .before .before .before .before .before .before .before .before .before .before .before .clear-heights .ensures .0 .long
+same-length c =
+    let at-settle-from = c .before .before .before in let at-loop = at-settle-from .before .before .before .before .before in let at-clear-heights = at-loop .before .before .before in
+    at-settle-from .settle-from .ensures .0 .long ∙ at-loop .loop .inv .walking .kept .long ∙ at-clear-heights .clear-heights .ensures .0 .long
 
 returns : tie.Need-returns Inv-loop μ-loop
-returns c = (kept-then (kept-then (c .before .before .before .before .before .before .before .before .before .before .before .clear-heights .ensures .0) (c .before .before .before .before .before .before .before .before .loop .inv .walking .kept)) (c .before .before .before .settle-from .ensures .0), decides-no _ (c .before .before .before .settle-from .ensures .1 .no (not-true _ (c .if1 .taken))))
+returns c =
+    let at-settle-from = c .before .before .before in let at-loop = at-settle-from .before .before .before .before .before in let at-clear-heights = at-loop .before .before .before in
+    (kept-then (kept-then (at-clear-heights .clear-heights .ensures .0) (at-loop .loop .inv .walking .kept)) (at-settle-from .settle-from .ensures .0), decides-no _ (at-settle-from .settle-from .ensures .1 .no (not-true _ (c .if1 .taken))))
 
 shared-slice-read-record-length : tie.Need-shared-slice-read-record-length Inv-loop μ-loop
 shared-slice-read-record-length c = c .before .before .before .before .before .before .before .before .loop-test .taken
@@ -42,19 +50,27 @@ record-length-requires : tie.Need-record-length-requires Inv-loop μ-loop
 record-length-requires c κs = omega (arith, c .before .before .before .before .before .before .before .before .before .before .before .before .before .before .before .before .pre .numbered .shadowed .narrow)
 
 add-p : tie.Need-add-p Inv-loop μ-loop
-add-p c = omega (arith, place-fits (linked-heights (c .before .before .before .before .before .before .before .before .before .before .before .before .before .clear-heights .ensures .0) (c .before .before .before .before .before .before .before .before .before .before .before .before .before .before .before .before .before .pre)) _ (settles-place (linked-heights (c .before .before .before .before .before .before .before .before .before .before .before .before .before .clear-heights .ensures .0) (c .before .before .before .before .before .before .before .before .before .before .before .before .before .before .before .before .before .pre)) (c .before .before .before .before .before .before .before .before .before .before .loop .inv) (c .before .before .before .before .before .before .before .before .before .loop-test .taken)) (c .record-length .ensures))
+add-p c =
+    let at-loop-test = c .before .before .before .before .before .before .before .before .before in let at-loop = at-loop-test .before in let at-clear-heights = at-loop .before .before .before in let at-start = at-clear-heights .before .before .before .before in
+    omega (arith, place-fits (linked-heights (at-clear-heights .clear-heights .ensures .0) (at-start .pre)) _ (settles-place (linked-heights (at-clear-heights .clear-heights .ensures .0) (at-start .pre)) (at-loop .loop .inv) (at-loop-test .loop-test .taken)) (c .record-length .ensures))
 
 loop-less : tie.Need-loop-less Inv-loop μ-loop
-loop-less c = omega (arith, place-fits (linked-heights (c .before .before .before .before .before .before .before .before .before .before .before .before .before .clear-heights .ensures .0) (c .before .before .before .before .before .before .before .before .before .before .before .before .before .before .before .before .before .pre)) _ (settles-place (linked-heights (c .before .before .before .before .before .before .before .before .before .before .before .before .before .clear-heights .ensures .0) (c .before .before .before .before .before .before .before .before .before .before .before .before .before .before .before .before .before .pre)) (c .before .before .before .before .before .before .before .before .before .before .loop .inv) (c .before .before .before .before .before .before .before .before .before .loop-test .taken)) (c .record-length .ensures))
+loop-less c =
+    let at-loop-test = c .before .before .before .before .before .before .before .before .before in let at-loop = at-loop-test .before in let at-clear-heights = at-loop .before .before .before in let at-start = at-clear-heights .before .before .before .before in
+    omega (arith, place-fits (linked-heights (at-clear-heights .clear-heights .ensures .0) (at-start .pre)) _ (settles-place (linked-heights (at-clear-heights .clear-heights .ensures .0) (at-start .pre)) (at-loop .loop .inv) (at-loop-test .loop-test .taken)) (c .record-length .ensures))
 
 loop-again : tie.Need-loop-again Inv-loop μ-loop
-loop-again c = settles-on (linked-heights (c .before .before .before .before .before .before .before .before .before .before .before .before .before .clear-heights .ensures .0) (c .before .before .before .before .before .before .before .before .before .before .before .before .before .before .before .before .before .pre)) (c .before .before .before .before .before .before .before .before .before .before .loop .inv) (c .before .before .before .before .before .before .before .before .before .loop-test .taken) (c .before .before .before .before .before .before .before .cell .ensures .0) (c .before .before .before .before .before .settle-from .ensures .1 .yes (not-false _ (c .before .before .if1 .left))) (c .record-length .ensures)
+loop-again c =
+    let at-if1 = c .before .before in let at-settle-from = at-if1 .before .before .before in let at-cell = at-settle-from .before .before in let at-loop-test = at-cell .before .before in let at-loop = at-loop-test .before in let at-clear-heights = at-loop .before .before .before in let at-start = at-clear-heights .before .before .before .before in
+    settles-on (linked-heights (at-clear-heights .clear-heights .ensures .0) (at-start .pre)) (at-loop .loop .inv) (at-loop-test .loop-test .taken) (at-cell .cell .ensures .0) (at-settle-from .settle-from .ensures .1 .yes (not-false _ (at-if1 .if1 .left))) (c .record-length .ensures)
 
 same-length-2 : tie.Need-same-length-2 Inv-loop μ-loop
 same-length-2 c = c .before .loop .inv .walking .kept .long ∙ c .before .before .before .before .clear-heights .ensures .0 .long
 
 returns-2 : tie.Need-returns-2 Inv-loop μ-loop
-returns-2 c = (kept-then (c .before .before .before .before .clear-heights .ensures .0) (c .before .loop .inv .walking .kept), decides-yes (settles-end (linked-heights (c .before .before .before .before .clear-heights .ensures .0) (c .before .before .before .before .before .before .before .before .pre)) (c .before .loop .inv) (c .loop-test .left)))
+returns-2 c =
+    let at-loop = c .before in let at-clear-heights = at-loop .before .before .before in let at-start = at-clear-heights .before .before .before .before in
+    (kept-then (at-clear-heights .clear-heights .ensures .0) (at-loop .loop .inv .walking .kept), decides-yes (settles-end (linked-heights (at-clear-heights .clear-heights .ensures .0) (at-start .pre)) (at-loop .loop .inv) (c .loop-test .left)))
 
 pub settle-spec : {M : Type 1} → statement M
 settle-spec = tie.close (tie.spec Inv-loop μ-loop clear-heights-requires loop-holds cell-requires settle-from-requires

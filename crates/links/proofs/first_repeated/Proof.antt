@@ -16,10 +16,14 @@ returns : tie.Need-returns
 returns c = nothing-found (fault-four-none _ (c .before .before .before .before .before .before .before .before .pre) (found-nothing (sym (c .enum-told .given .1) ∙ c .before .before .first-repeat .ensures)))
 
 cell-requires : tie.Need-cell-requires
-cell-requires c κs = let e = fault-four-some _ (c .before .before .before .before .before .before .before .before .before .pre) (found-some (sym (c .before .i .given .1) ∙ c .before .before .before .first-repeat .ensures)) in omega (arith, e .0)
+cell-requires c κs =
+    let at-i = c .before in let at-first-repeat = at-i .before .before in let at-start = at-first-repeat .before .before .before .before .before .before in
+    let e = fault-four-some _ (at-start .pre) (found-some (sym (at-i .i .given .1) ∙ at-first-repeat .first-repeat .ensures)) in omega (arith, e .0)
 
 returns-2 : tie.Need-returns-2
-returns-2 c = let e = fault-four-some _ (c .before .before .before .before .before .before .before .before .before .before .pre) (found-some (sym (c .before .before .i .given .1) ∙ c .before .before .before .before .first-repeat .ensures)) in ap At (cell-first (c .before .before .before .before .before .before .before .before .before .before .args .at .now) (c .before .before .i .given .0 .0) (c .cell .ensures .0)) ∙ at-found (e .1)
+returns-2 c =
+    let at-i = c .before .before in let at-first-repeat = at-i .before .before in let at-start = at-first-repeat .before .before .before .before .before .before in
+    let e = fault-four-some _ (at-start .pre) (found-some (sym (at-i .i .given .1) ∙ at-first-repeat .first-repeat .ensures)) in ap At (cell-first (at-start .args .at .now) (at-i .i .given .0 .0) (c .cell .ensures .0)) ∙ at-found (e .1)
 
 pub first-repeated-spec : {M : Type 1} → statement M
 first-repeated-spec = tie.close (tie.spec first-repeat-requires (search needs) (search needs) returns cell-requires

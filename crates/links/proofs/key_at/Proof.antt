@@ -15,19 +15,29 @@ cell-requires : tie.Need-cell-requires
 cell-requires c κs = omega (arith, row-room (c .before .before .pre .0 .shadowed) _ (c .before .before .pre .1))
 
 shared-slice-read-tag : tie.Need-shared-slice-read-tag
-shared-slice-read-tag c = let pre = c .before .before .before .before .pre in let a = c .before .before .before .before .args in let R : Recipe = record { width = a .w; bytes = a .s .now } in let room = place-room R (a .p) (pre .1) in omega arith
+shared-slice-read-tag c =
+    let at-start = c .before .before .before .before in
+    let pre = at-start .pre in let a = at-start .args in let R : Recipe = record { width = a .w; bytes = a .s .now } in let room = place-room R (a .p) (pre .1) in omega arith
 
 tag-requires : tie.Need-tag-requires
-tag-requires c κs = let pre = c .before .before .before .before .pre in let a = c .before .before .before .before .args in let R : Recipe = record { width = a .w; bytes = a .s .now } in let room = place-room R (a .p) (pre .1) in (omega (arith, pre .0 .shadowed .short), omega (arith, c .before .cell .ensures .0, pre .0 .held _ (pre .1), holder-below R (a .p), pre .0 .shadowed .short))
+tag-requires c κs =
+    let at-cell = c .before in let at-start = at-cell .before .before .before in
+    let pre = at-start .pre in let a = at-start .args in let R : Recipe = record { width = a .w; bytes = a .s .now } in let room = place-room R (a .p) (pre .1) in (omega (arith, pre .0 .shadowed .short), omega (arith, at-cell .cell .ensures .0, pre .0 .held _ (pre .1), holder-below R (a .p), pre .0 .shadowed .short))
 
 add-field : tie.Need-add-field
-add-field c = let pre = c .before .before .before .before .before .pre in let a = c .before .before .before .before .before .args in let R : Recipe = record { width = a .w; bytes = a .s .now } in let room = place-room R (a .p) (pre .1) in omega (arith, pre .0 .shadowed .short)
+add-field c =
+    let at-start = c .before .before .before .before .before in
+    let pre = at-start .pre in let a = at-start .args in let R : Recipe = record { width = a .w; bytes = a .s .now } in let room = place-room R (a .p) (pre .1) in omega (arith, pre .0 .shadowed .short)
 
 field-requires : tie.Need-field-requires
-field-requires c κs = let pre = c .before .before .before .before .before .pre in let a = c .before .before .before .before .before .args in let R : Recipe = record { width = a .w; bytes = a .s .now } in let room = place-room R (a .p) (pre .1) in omega arith
+field-requires c κs =
+    let at-start = c .before .before .before .before .before in
+    let pre = at-start .pre in let a = at-start .args in let R : Recipe = record { width = a .w; bytes = a .s .now } in let room = place-room R (a .p) (pre .1) in omega arith
 
 returns : tie.Need-returns
-returns c = let pre = c .before .before .before .before .before .before .before .pre in key-is _ _ (c .before .before .before .before .cell .ensures .0 ∙ pre .0 .held _ (pre .1)) (c .before .before .tag .ensures .0) (c .before .field .ensures) (c .key .ensures)
+returns c =
+    let at-field = c .before in let at-tag = at-field .before in let at-cell = at-tag .before .before in let at-start = at-cell .before .before .before in
+    let pre = at-start .pre in key-is _ _ (at-cell .cell .ensures .0 ∙ pre .0 .held _ (pre .1)) (at-tag .tag .ensures .0) (at-field .field .ensures) (c .key .ensures)
 
 pub key-at-spec : {M : Type 1} → statement M
 key-at-spec = tie.close (tie.spec cell-requires shared-slice-read-tag tag-requires add-field field-requires

@@ -12,49 +12,77 @@ use Rattle.links.proofs.name_target.Statement.{statement}
 use Rattle.links.proofs.name_target.Tie as tie
 
 shared-slice-read-k : tie.Need-shared-slice-read-k
-shared-slice-read-k c = let pre = c .before .before .before .before .before .before .before .pre in let a = c .before .before .before .before .before .before .before .args in let R : Recipe = record { width = a .w; bytes = a .s .now } in let g = pre .1 .0 in let p = a .p in let i = pre .1 .1 in omega (arith, place-room R p i)
+shared-slice-read-k c =
+    let at-start = c .before .before .before .before .before .before .before in
+    let pre = at-start .pre in let a = at-start .args in let R : Recipe = record { width = a .w; bytes = a .s .now } in let g = pre .1 .0 in let p = a .p in let i = pre .1 .1 in omega (arith, place-room R p i)
 
 returns : tie.Need-returns
-returns c = let pre = c .before .before .before .before .before .before .before .before .before .pre in let a = c .before .before .before .before .before .before .before .before .before .args in let R : Recipe = record { width = a .w; bytes = a .s .now } in let g = pre .1 .0 in let p = a .p in let i = pre .1 .1 in target-kept g p i _ (not-pointing R p (pointer-byte R p ∙ (sym (c .before .is-pointer .ensures) ∙ not-true _ (c .if1 .taken))))
+returns c =
+    let at-is-pointer = c .before in let at-start = at-is-pointer .before .before .before .before .before .before .before .before in
+    let pre = at-start .pre in let a = at-start .args in let R : Recipe = record { width = a .w; bytes = a .s .now } in let g = pre .1 .0 in let p = a .p in let i = pre .1 .1 in target-kept g p i _ (not-pointing R p (pointer-byte R p ∙ (sym (at-is-pointer .is-pointer .ensures) ∙ not-true _ (c .if1 .taken))))
 
 cell-requires : tie.Need-cell-requires
-cell-requires c κs = let pre = c .before .before .before .before .before .before .before .before .before .before .pre in let a = c .before .before .before .before .before .before .before .before .before .before .args in let R : Recipe = record { width = a .w; bytes = a .s .now } in let g = pre .1 .0 in let p = a .p in let i = pre .1 .1 in omega (arith, cells-room g p i)
+cell-requires c κs =
+    let at-start = c .before .before .before .before .before .before .before .before .before .before in
+    let pre = at-start .pre in let a = at-start .args in let R : Recipe = record { width = a .w; bytes = a .s .now } in let g = pre .1 .0 in let p = a .p in let i = pre .1 .1 in omega (arith, cells-room g p i)
 
 returns-2 : tie.Need-returns-2
-returns-2 c = let pre = c .before .before .before .before .before .before .before .before .before .before .before .before .pre in let a = c .before .before .before .before .before .before .before .before .before .before .before .before .args in let R : Recipe = record { width = a .w; bytes = a .s .now } in let g = pre .1 .0 in let p = a .p in let i = pre .1 .1 in let h = pointer-byte R p ∙ (sym (c .before .before .before .before .is-pointer .ensures) ∙ not-false _ (c .before .before .before .if1 .left)) in target-kept g p i _ (pointing-none g p i h (sym (c .before .cell .ensures .0) ∙ c .if2 .taken))
+returns-2 c =
+    let at-cell = c .before in let at-if1 = at-cell .before .before in let at-is-pointer = at-if1 .before in let at-start = at-is-pointer .before .before .before .before .before .before .before .before in
+    let pre = at-start .pre in let a = at-start .args in let R : Recipe = record { width = a .w; bytes = a .s .now } in let g = pre .1 .0 in let p = a .p in let i = pre .1 .1 in let h = pointer-byte R p ∙ (sym (at-is-pointer .is-pointer .ensures) ∙ not-false _ (at-if1 .if1 .left)) in target-kept g p i _ (pointing-none g p i h (sym (at-cell .cell .ensures .0) ∙ c .if2 .taken))
 
 add-way : tie.Need-add-way
-add-way c = let pre = c .before .before .before .before .before .before .before .before .before .before .before .before .pre in let a = c .before .before .before .before .before .before .before .before .before .before .before .before .args in let R : Recipe = record { width = a .w; bytes = a .s .now } in let g = pre .1 .0 in let p = a .p in let i = pre .1 .1 in omega (arith, place-room R p i)
+add-way c =
+    let at-start = c .before .before .before .before .before .before .before .before .before .before .before .before in
+    let pre = at-start .pre in let a = at-start .args in let R : Recipe = record { width = a .w; bytes = a .s .now } in let g = pre .1 .0 in let p = a .p in let i = pre .1 .1 in omega (arith, place-room R p i)
 
 submodel-offset-requires : tie.Need-submodel-offset-requires
-submodel-offset-requires c κs = sym (c .before .before .before .before .is-pointer .ensures) ∙ not-false _ (c .before .before .before .if1 .left)
+submodel-offset-requires c κs = let at-if1 = c .before .before .before in let at-is-pointer = at-if1 .before in sym (at-is-pointer .is-pointer .ensures) ∙ not-false _ (at-if1 .if1 .left)
 
 add-way-2 : tie.Need-add-way-2
-add-way-2 c = let pre = c .before .before .before .before .before .before .before .before .before .before .before .before .before .pre in let a = c .before .before .before .before .before .before .before .before .before .before .before .before .before .args in let R : Recipe = record { width = a .w; bytes = a .s .now } in let g = pre .1 .0 in let p = a .p in let i = pre .1 .1 in let h = pointer-byte R p ∙ (sym (c .before .before .before .before .before .is-pointer .ensures) ∙ not-false _ (c .before .before .before .before .if1 .left)) in let room = target-field g p i (pre .0 .indexed .formed) h (c .before .before .cell .ensures .0) (c .before .if2 .left) (c .submodel-offset .ensures) .room in omega arith
+add-way-2 c =
+    let at-if2 = c .before in let at-cell = at-if2 .before in let at-if1 = at-cell .before .before in let at-is-pointer = at-if1 .before in let at-start = at-is-pointer .before .before .before .before .before .before .before .before in
+    let pre = at-start .pre in let a = at-start .args in let R : Recipe = record { width = a .w; bytes = a .s .now } in let g = pre .1 .0 in let p = a .p in let i = pre .1 .1 in let h = pointer-byte R p ∙ (sym (at-is-pointer .is-pointer .ensures) ∙ not-false _ (at-if1 .if1 .left)) in let room = target-field g p i (pre .0 .indexed .formed) h (at-cell .cell .ensures .0) (at-if2 .if2 .left) (c .submodel-offset .ensures) .room in omega arith
 
 add-way-3 : tie.Need-add-way-3
-add-way-3 c = let pre = c .before .before .before .before .before .before .before .before .before .before .before .before .before .pre in let a = c .before .before .before .before .before .before .before .before .before .before .before .before .before .args in let R : Recipe = record { width = a .w; bytes = a .s .now } in let g = pre .1 .0 in let p = a .p in let i = pre .1 .1 in let h = pointer-byte R p ∙ (sym (c .before .before .before .before .before .is-pointer .ensures) ∙ not-false _ (c .before .before .before .before .if1 .left)) in let room = target-field g p i (pre .0 .indexed .formed) h (c .before .before .cell .ensures .0) (c .before .if2 .left) (c .submodel-offset .ensures) .room in omega arith
+add-way-3 c =
+    let at-if2 = c .before in let at-cell = at-if2 .before in let at-if1 = at-cell .before .before in let at-is-pointer = at-if1 .before in let at-start = at-is-pointer .before .before .before .before .before .before .before .before in
+    let pre = at-start .pre in let a = at-start .args in let R : Recipe = record { width = a .w; bytes = a .s .now } in let g = pre .1 .0 in let p = a .p in let i = pre .1 .1 in let h = pointer-byte R p ∙ (sym (at-is-pointer .is-pointer .ensures) ∙ not-false _ (at-if1 .if1 .left)) in let room = target-field g p i (pre .0 .indexed .formed) h (at-cell .cell .ensures .0) (at-if2 .if2 .left) (c .submodel-offset .ensures) .room in omega arith
 
 shared-slice-read-t15 : tie.Need-shared-slice-read-t15
-shared-slice-read-t15 c = let pre = c .before .before .before .before .before .before .before .before .before .before .before .before .before .before .pre in let a = c .before .before .before .before .before .before .before .before .before .before .before .before .before .before .args in let R : Recipe = record { width = a .w; bytes = a .s .now } in let g = pre .1 .0 in let p = a .p in let i = pre .1 .1 in let h = pointer-byte R p ∙ (sym (c .before .before .before .before .before .before .is-pointer .ensures) ∙ not-false _ (c .before .before .before .before .before .if1 .left)) in let room = target-field g p i (pre .0 .indexed .formed) h (c .before .before .before .cell .ensures .0) (c .before .before .if2 .left) (c .before .submodel-offset .ensures) .room in omega arith
+shared-slice-read-t15 c =
+    let at-submodel-offset = c .before in let at-if2 = at-submodel-offset .before in let at-cell = at-if2 .before in let at-if1 = at-cell .before .before in let at-is-pointer = at-if1 .before in let at-start = at-is-pointer .before .before .before .before .before .before .before .before in
+    let pre = at-start .pre in let a = at-start .args in let R : Recipe = record { width = a .w; bytes = a .s .now } in let g = pre .1 .0 in let p = a .p in let i = pre .1 .1 in let h = pointer-byte R p ∙ (sym (at-is-pointer .is-pointer .ensures) ∙ not-false _ (at-if1 .if1 .left)) in let room = target-field g p i (pre .0 .indexed .formed) h (at-cell .cell .ensures .0) (at-if2 .if2 .left) (at-submodel-offset .submodel-offset .ensures) .room in omega arith
 
 add-t24 : tie.Need-add-t24
-add-t24 c = let pre = c .before .before .before .before .before .before .before .before .before .before .before .before .before .before .pre in let a = c .before .before .before .before .before .before .before .before .before .before .before .before .before .before .args in let R : Recipe = record { width = a .w; bytes = a .s .now } in let g = pre .1 .0 in let p = a .p in let i = pre .1 .1 in let h = pointer-byte R p ∙ (sym (c .before .before .before .before .before .before .is-pointer .ensures) ∙ not-false _ (c .before .before .before .before .before .if1 .left)) in omega (arith, way-low g p i (pre .0 .indexed .formed) h (c .before .before .before .cell .ensures .0) (c .before .before .if2 .left) (c .before .submodel-offset .ensures))
+add-t24 c =
+    let at-submodel-offset = c .before in let at-if2 = at-submodel-offset .before in let at-cell = at-if2 .before in let at-if1 = at-cell .before .before in let at-is-pointer = at-if1 .before in let at-start = at-is-pointer .before .before .before .before .before .before .before .before in
+    let pre = at-start .pre in let a = at-start .args in let R : Recipe = record { width = a .w; bytes = a .s .now } in let g = pre .1 .0 in let p = a .p in let i = pre .1 .1 in let h = pointer-byte R p ∙ (sym (at-is-pointer .is-pointer .ensures) ∙ not-false _ (at-if1 .if1 .left)) in omega (arith, way-low g p i (pre .0 .indexed .formed) h (at-cell .cell .ensures .0) (at-if2 .if2 .left) (at-submodel-offset .submodel-offset .ensures))
 
 cell-requires-2 : tie.Need-cell-requires-2
-cell-requires-2 c κs = let pre = c .before .before .before .before .before .before .before .before .before .before .before .before .before .before .before .pre in let a = c .before .before .before .before .before .before .before .before .before .before .before .before .before .before .before .args in let R : Recipe = record { width = a .w; bytes = a .s .now } in let g = pre .1 .0 in let p = a .p in let i = pre .1 .1 in let h = pointer-byte R p ∙ (sym (c .before .before .before .before .before .before .before .is-pointer .ensures) ∙ not-false _ (c .before .before .before .before .before .before .if1 .left)) in omega (arith, submodel-room g p i (pre .0 .indexed .formed) h (c .before .before .before .before .cell .ensures .0) (c .before .before .before .if2 .left) (c .before .before .submodel-offset .ensures))
+cell-requires-2 c κs =
+    let at-submodel-offset = c .before .before in let at-if2 = at-submodel-offset .before in let at-cell = at-if2 .before in let at-if1 = at-cell .before .before in let at-is-pointer = at-if1 .before in let at-start = at-is-pointer .before .before .before .before .before .before .before .before in
+    let pre = at-start .pre in let a = at-start .args in let R : Recipe = record { width = a .w; bytes = a .s .now } in let g = pre .1 .0 in let p = a .p in let i = pre .1 .1 in let h = pointer-byte R p ∙ (sym (at-is-pointer .is-pointer .ensures) ∙ not-false _ (at-if1 .if1 .left)) in omega (arith, submodel-room g p i (pre .0 .indexed .formed) h (at-cell .cell .ensures .0) (at-if2 .if2 .left) (at-submodel-offset .submodel-offset .ensures))
 
 add-t21 : tie.Need-add-t21
-add-t21 c = let pre = c .before .before .before .before .before .before .before .before .before .before .before .before .before .before .before .before .pre in let a = c .before .before .before .before .before .before .before .before .before .before .before .before .before .before .before .before .args in let R : Recipe = record { width = a .w; bytes = a .s .now } in let g = pre .1 .0 in let p = a .p in let i = pre .1 .1 in let h = pointer-byte R p ∙ (sym (c .before .before .before .before .before .before .before .before .is-pointer .ensures) ∙ not-false _ (c .before .before .before .before .before .before .before .if1 .left)) in let room = target-field g p i (pre .0 .indexed .formed) h (c .before .before .before .before .before .cell .ensures .0) (c .before .before .before .before .if2 .left) (c .before .before .before .submodel-offset .ensures) .room in omega arith
+add-t21 c =
+    let at-submodel-offset = c .before .before .before in let at-if2 = at-submodel-offset .before in let at-cell = at-if2 .before in let at-if1 = at-cell .before .before in let at-is-pointer = at-if1 .before in let at-start = at-is-pointer .before .before .before .before .before .before .before .before in
+    let pre = at-start .pre in let a = at-start .args in let R : Recipe = record { width = a .w; bytes = a .s .now } in let g = pre .1 .0 in let p = a .p in let i = pre .1 .1 in let h = pointer-byte R p ∙ (sym (at-is-pointer .is-pointer .ensures) ∙ not-false _ (at-if1 .if1 .left)) in let room = target-field g p i (pre .0 .indexed .formed) h (at-cell .cell .ensures .0) (at-if2 .if2 .left) (at-submodel-offset .submodel-offset .ensures) .room in omega arith
 
 find-record-requires : tie.Need-find-record-requires
-find-record-requires c κs = let pre = c .before .before .before .before .before .before .before .before .before .before .before .before .before .before .before .before .pre in let a = c .before .before .before .before .before .before .before .before .before .before .before .before .before .before .before .before .args in let R : Recipe = record { width = a .w; bytes = a .s .now } in let g = pre .1 .0 in let p = a .p in let i = pre .1 .1 in let h = pointer-byte R p ∙ (sym (c .before .before .before .before .before .before .before .before .is-pointer .ensures) ∙ not-false _ (c .before .before .before .before .before .before .before .if1 .left)) in (pre .0, target-sought g p i (pre .0 .indexed .formed) h (c .before .before .before .before .before .cell .ensures .0) (c .before .before .before .before .if2 .left) (c .before .before .before .submodel-offset .ensures) (c .cell2 .ensures .0))
+find-record-requires c κs =
+    let at-submodel-offset = c .before .before .before in let at-if2 = at-submodel-offset .before in let at-cell = at-if2 .before in let at-if1 = at-cell .before .before in let at-is-pointer = at-if1 .before in let at-start = at-is-pointer .before .before .before .before .before .before .before .before in
+    let pre = at-start .pre in let a = at-start .args in let R : Recipe = record { width = a .w; bytes = a .s .now } in let g = pre .1 .0 in let p = a .p in let i = pre .1 .1 in let h = pointer-byte R p ∙ (sym (at-is-pointer .is-pointer .ensures) ∙ not-false _ (at-if1 .if1 .left)) in (pre .0, target-sought g p i (pre .0 .indexed .formed) h (at-cell .cell .ensures .0) (at-if2 .if2 .left) (at-submodel-offset .submodel-offset .ensures) (c .cell2 .ensures .0))
 
 set-cell-requires : tie.Need-set-cell-requires
-set-cell-requires c κs = let pre = c .before .before .before .before .before .before .before .before .before .before .before .before .before .before .before .before .before .before .before .pre in let a = c .before .before .before .before .before .before .before .before .before .before .before .before .before .before .before .before .before .before .before .args in let R : Recipe = record { width = a .w; bytes = a .s .now } in let g = pre .1 .0 in let p = a .p in let i = pre .1 .1 in (omega (arith, cells-room g p i), c .wide .ensures .1)
+set-cell-requires c κs =
+    let at-start = c .before .before .before .before .before .before .before .before .before .before .before .before .before .before .before .before .before .before .before in
+    let pre = at-start .pre in let a = at-start .args in let R : Recipe = record { width = a .w; bytes = a .s .now } in let g = pre .1 .0 in let p = a .p in let i = pre .1 .1 in (omega (arith, cells-room g p i), c .wide .ensures .1)
 
 returns-3 : tie.Need-returns-3
-returns-3 c = let pre = c .before .before .before .before .before .before .before .before .before .before .before .before .before .before .before .before .before .before .before .before .before .before .pre in let a = c .before .before .before .before .before .before .before .before .before .before .before .before .before .before .before .before .before .before .before .before .before .before .args in let R : Recipe = record { width = a .w; bytes = a .s .now } in let g = pre .1 .0 in let p = a .p in let i = pre .1 .1 in let h = pointer-byte R p ∙ (sym (c .before .before .before .before .before .before .before .before .before .before .before .before .before .before .is-pointer .ensures) ∙ not-false _ (c .before .before .before .before .before .before .before .before .before .before .before .before .before .if1 .left)) in target-written g p i (pre .0 .indexed .formed) h (c .before .before .before .before .before .before .before .before .before .before .before .cell .ensures .0) (c .before .before .before .before .before .before .before .before .before .before .if2 .left) (c .before .before .before .before .before .before .before .before .before .submodel-offset .ensures) (c .before .before .before .before .before .before .cell2 .ensures .0) (c .before .before .before .before .before .find-record .ensures) (c .before .before .before .wide .ensures .0) (c .before .before .set-cell .ensures)
+returns-3 c =
+    let at-set-cell = c .before .before in let at-wide = at-set-cell .before in let at-find-record = at-wide .before .before in let at-cell2 = at-find-record .before in let at-submodel-offset = at-cell2 .before .before .before in let at-if2 = at-submodel-offset .before in let at-cell = at-if2 .before in let at-if1 = at-cell .before .before in let at-is-pointer = at-if1 .before in let at-start = at-is-pointer .before .before .before .before .before .before .before .before in
+    let pre = at-start .pre in let a = at-start .args in let R : Recipe = record { width = a .w; bytes = a .s .now } in let g = pre .1 .0 in let p = a .p in let i = pre .1 .1 in let h = pointer-byte R p ∙ (sym (at-is-pointer .is-pointer .ensures) ∙ not-false _ (at-if1 .if1 .left)) in target-written g p i (pre .0 .indexed .formed) h (at-cell .cell .ensures .0) (at-if2 .if2 .left) (at-submodel-offset .submodel-offset .ensures) (at-cell2 .cell2 .ensures .0) (at-find-record .find-record .ensures) (at-wide .wide .ensures .0) (at-set-cell .set-cell .ensures)
 
 pub name-target-spec : {M : Type 1} → statement M
 name-target-spec = tie.close (tie.spec shared-slice-read-k (search needs) returns cell-requires (search needs) returns-2

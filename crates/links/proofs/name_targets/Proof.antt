@@ -21,22 +21,34 @@ loop-holds : tie.Need-loop-holds Inv-loop μ-loop
 loop-holds c = (walk-start _ _ _, filling-start _ _ _ _)
 
 name-target-requires : tie.Need-name-target-requires Inv-loop μ-loop
-name-target-requires c κs = let pre = c .before .before .before .before .before .before .before .before .before .pre in let sh = pre .1 .0 .numbered .shadowed in let g = c .before .before .loop .inv .0 in let l = c .before .loop-test .taken in (pre .0, (pointed-over (g .kept) (pre .1 .0), walk-place sh g l))
+name-target-requires c κs =
+    let at-loop-test = c .before in let at-loop = at-loop-test .before in let at-start = at-loop .before .before .before .before .before .before .before in
+    let pre = at-start .pre in let sh = pre .1 .0 .numbered .shadowed in let g = at-loop .loop .inv .0 in let l = at-loop-test .loop-test .taken in (pre .0, (pointed-over (g .kept) (pre .1 .0), walk-place sh g l))
 
 shared-slice-read-record-length : tie.Need-shared-slice-read-record-length Inv-loop μ-loop
-shared-slice-read-record-length c = let pre = c .before .before .before .before .before .before .before .before .before .before .before .before .before .pre in let sh = pre .1 .0 .numbered .shadowed in let g = c .before .before .before .before .before .before .loop .inv .0 in let l = c .before .before .before .before .before .loop-test .taken in omega arith
+shared-slice-read-record-length c =
+    let at-loop-test = c .before .before .before .before .before in let at-loop = at-loop-test .before in let at-start = at-loop .before .before .before .before .before .before .before in
+    let pre = at-start .pre in let sh = pre .1 .0 .numbered .shadowed in let g = at-loop .loop .inv .0 in let l = at-loop-test .loop-test .taken in omega arith
 
 record-length-requires : tie.Need-record-length-requires Inv-loop μ-loop
-record-length-requires c κs = let pre = c .before .before .before .before .before .before .before .before .before .before .before .before .before .pre in let sh = pre .1 .0 .numbered .shadowed in let g = c .before .before .before .before .before .before .loop .inv .0 in let l = c .before .before .before .before .before .loop-test .taken in omega (arith, sh .narrow)
+record-length-requires c κs =
+    let at-loop-test = c .before .before .before .before .before in let at-loop = at-loop-test .before in let at-start = at-loop .before .before .before .before .before .before .before in
+    let pre = at-start .pre in let sh = pre .1 .0 .numbered .shadowed in let g = at-loop .loop .inv .0 in let l = at-loop-test .loop-test .taken in omega (arith, sh .narrow)
 
 add-p : tie.Need-add-p Inv-loop μ-loop
-add-p c = let pre = c .before .before .before .before .before .before .before .before .before .before .before .before .before .before .pre in let sh = pre .1 .0 .numbered .shadowed in let g = c .before .before .before .before .before .before .before .loop .inv .0 in let l = c .before .before .before .before .before .before .loop-test .taken in omega (arith, walk-fits sh g l (c .record-length .ensures), sh .short)
+add-p c =
+    let at-loop-test = c .before .before .before .before .before .before in let at-loop = at-loop-test .before in let at-start = at-loop .before .before .before .before .before .before .before in
+    let pre = at-start .pre in let sh = pre .1 .0 .numbered .shadowed in let g = at-loop .loop .inv .0 in let l = at-loop-test .loop-test .taken in omega (arith, walk-fits sh g l (c .record-length .ensures), sh .short)
 
 loop-less : tie.Need-loop-less Inv-loop μ-loop
-loop-less c = let pre = c .before .before .before .before .before .before .before .before .before .before .before .before .before .before .pre in let sh = pre .1 .0 .numbered .shadowed in let g = c .before .before .before .before .before .before .before .loop .inv .0 in let l = c .before .before .before .before .before .before .loop-test .taken in omega (arith, walk-fits sh g l (c .record-length .ensures))
+loop-less c =
+    let at-loop-test = c .before .before .before .before .before .before in let at-loop = at-loop-test .before in let at-start = at-loop .before .before .before .before .before .before .before in
+    let pre = at-start .pre in let sh = pre .1 .0 .numbered .shadowed in let g = at-loop .loop .inv .0 in let l = at-loop-test .loop-test .taken in omega (arith, walk-fits sh g l (c .record-length .ensures))
 
 loop-again : tie.Need-loop-again Inv-loop μ-loop
-loop-again c = let pre = c .before .before .before .before .before .before .before .before .before .before .before .before .before .before .pre in let sh = pre .1 .0 .numbered .shadowed in let g = c .before .before .before .before .before .before .before .loop .inv .0 in let l = c .before .before .before .before .before .before .loop-test .taken in let i = walk-place sh g l in let r = c .record-length .ensures in let row = target-row i (c .before .before .before .before .before .before .before .loop .inv .1) (walk-room sh g l) (c .before .before .before .before .name-target .ensures) in (walk-one sh g l r (row-kept sh i refl row), filling-one (c .before .before .before .before .before .before .before .loop .inv .1) sh i refl r row)
+loop-again c =
+    let at-name-target = c .before .before .before .before in let at-loop-test = at-name-target .before .before in let at-loop = at-loop-test .before in let at-start = at-loop .before .before .before .before .before .before .before in
+    let pre = at-start .pre in let sh = pre .1 .0 .numbered .shadowed in let g = at-loop .loop .inv .0 in let l = at-loop-test .loop-test .taken in let i = walk-place sh g l in let r = c .record-length .ensures in let row = target-row i (at-loop .loop .inv .1) (walk-room sh g l) (at-name-target .name-target .ensures) in (walk-one sh g l r (row-kept sh i refl row), filling-one (at-loop .loop .inv .1) sh i refl r row)
 
 same-length : tie.Need-same-length Inv-loop μ-loop
 same-length c = c .before .loop .inv .0 .kept .long

@@ -14,16 +14,24 @@ field-requires : tie.Need-field-requires
 field-requires c κs = let pre = c .before .before .pre in let a = c .before .before .args in let R : Recipe = record { width = a .w; bytes = a .s .now } in let g = parent-at R (a .p) (pre .0) (pre .1 .0) (pre .1 .1 .0) in let k = class-is R (a .p) (pre .0) (pre .1 .0) (pre .1 .1 .0) in let ea = pre .1 .1 .1 in g .room
 
 returns : tie.Need-returns
-returns c = let pre = c .before .before .before .before .before .pre in let a = c .before .before .before .before .before .args in let R : Recipe = record { width = a .w; bytes = a .s .now } in let g = parent-at R (a .p) (pre .0) (pre .1 .0) (pre .1 .1 .0) in let k = class-is R (a .p) (pre .0) (pre .1 .0) (pre .1 .1 .0) in let ea = pre .1 .1 .1 in parent-missing R (a .p) g k ea (c .before .before .before .if1 .taken) (c .before .is-blank .ensures ∙ ap isBlank (c .before .before .field .ensures)) (c .parent-may-be-blank .ensures)
+returns c =
+    let at-is-blank = c .before in let at-field = at-is-blank .before in let at-if1 = at-field .before in let at-start = at-if1 .before .before in
+    let pre = at-start .pre in let a = at-start .args in let R : Recipe = record { width = a .w; bytes = a .s .now } in let g = parent-at R (a .p) (pre .0) (pre .1 .0) (pre .1 .1 .0) in let k = class-is R (a .p) (pre .0) (pre .1 .0) (pre .1 .1 .0) in let ea = pre .1 .1 .1 in parent-missing R (a .p) g k ea (at-if1 .if1 .taken) (at-is-blank .is-blank .ensures ∙ ap isBlank (at-field .field .ensures)) (c .parent-may-be-blank .ensures)
 
 add-parent-allowed-2 : tie.Need-add-parent-allowed-2
-add-parent-allowed-2 c = let pre = c .before .before .before .pre in let a = c .before .before .before .args in let R : Recipe = record { width = a .w; bytes = a .s .now } in let g = parent-at R (a .p) (pre .0) (pre .1 .0) (pre .1 .1 .0) in let k = class-is R (a .p) (pre .0) (pre .1 .0) (pre .1 .1 .0) in let ea = pre .1 .1 .1 in omega (arith, c .wide .ensures .0, parent-room R (a .p) g k ea (c .before .if1 .left))
+add-parent-allowed-2 c =
+    let at-if1 = c .before in let at-start = at-if1 .before .before in
+    let pre = at-start .pre in let a = at-start .args in let R : Recipe = record { width = a .w; bytes = a .s .now } in let g = parent-at R (a .p) (pre .0) (pre .1 .0) (pre .1 .1 .0) in let k = class-is R (a .p) (pre .0) (pre .1 .0) (pre .1 .1 .0) in let ea = pre .1 .1 .1 in omega (arith, c .wide .ensures .0, parent-room R (a .p) g k ea (at-if1 .if1 .left))
 
 shared-slice-read-parent-allowed : tie.Need-shared-slice-read-parent-allowed
-shared-slice-read-parent-allowed c = let pre = c .before .before .before .before .pre in let a = c .before .before .before .before .args in let R : Recipe = record { width = a .w; bytes = a .s .now } in let g = parent-at R (a .p) (pre .0) (pre .1 .0) (pre .1 .1 .0) in let k = class-is R (a .p) (pre .0) (pre .1 .0) (pre .1 .1 .0) in let ea = pre .1 .1 .1 in omega (arith, c .before .wide .ensures .0, parent-room R (a .p) g k ea (c .before .before .if1 .left))
+shared-slice-read-parent-allowed c =
+    let at-wide = c .before in let at-if1 = at-wide .before in let at-start = at-if1 .before .before in
+    let pre = at-start .pre in let a = at-start .args in let R : Recipe = record { width = a .w; bytes = a .s .now } in let g = parent-at R (a .p) (pre .0) (pre .1 .0) (pre .1 .1 .0) in let k = class-is R (a .p) (pre .0) (pre .1 .0) (pre .1 .1 .0) in let ea = pre .1 .1 .1 in omega (arith, at-wide .wide .ensures .0, parent-room R (a .p) g k ea (at-if1 .if1 .left))
 
 returns-2 : tie.Need-returns-2
-returns-2 c = let pre = c .before .before .before .before .before .pre in let a = c .before .before .before .before .before .args in let R : Recipe = record { width = a .w; bytes = a .s .now } in let g = parent-at R (a .p) (pre .0) (pre .1 .0) (pre .1 .1 .0) in let k = class-is R (a .p) (pre .0) (pre .1 .0) (pre .1 .1 .0) in let ea = pre .1 .1 .1 in parent-there R (a .p) g k ea (c .before .before .before .if1 .left) (c .before .before .wide .ensures .0) (c .parent-allowed .ensures)
+returns-2 c =
+    let at-wide = c .before .before in let at-if1 = at-wide .before in let at-start = at-if1 .before .before in
+    let pre = at-start .pre in let a = at-start .args in let R : Recipe = record { width = a .w; bytes = a .s .now } in let g = parent-at R (a .p) (pre .0) (pre .1 .0) (pre .1 .1 .0) in let k = class-is R (a .p) (pre .0) (pre .1 .0) (pre .1 .1 .0) in let ea = pre .1 .1 .1 in parent-there R (a .p) g k ea (at-if1 .if1 .left) (at-wide .wide .ensures .0) (c .parent-allowed .ensures)
 
 pub parent-fault-spec : {M : Type 1} → statement M
 parent-fault-spec = tie.close (tie.spec field-requires (search needs) (search needs) returns (search needs)

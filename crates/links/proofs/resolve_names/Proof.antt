@@ -8,10 +8,12 @@ use Rattle.links.proofs.resolve_names.Statement.{statement}
 use Rattle.links.proofs.resolve_names.Tie as tie
 
 index-names-requires : tie.Need-index-names-requires
-index-names-requires c κs = (c .before .before .before .before .before .before .before .pre .0, (c .before .before .before .before .before .before .before .pre .1, (omega arith, (omega arith, (omega arith, omega arith)))))
+index-names-requires c κs = let at-start = c .before .before .before .before .before .before .before in (at-start .pre .0, (at-start .pre .1, (omega arith, (omega arith, (omega arith, omega arith)))))
 
 slice-aggregate-judge-names : tie.Need-slice-aggregate-judge-names
-slice-aggregate-judge-names c = sym (length-take-le (c .before .before .before .before .before .index-names .result) (c .before .before .before .before .before .index-names .last .1 .1 .1 .0) (omega (arith, c .before .before .before .before .before .index-names .ensures .0, c .before .before .before .before .at2 .given)))
+slice-aggregate-judge-names c =
+    let at-at2 = c .before .before .before .before in let at-index-names = at-at2 .before in
+    sym (length-take-le (at-index-names .index-names .result) (at-index-names .index-names .last .1 .1 .1 .0) (omega (arith, at-index-names .index-names .ensures .0, at-at2 .at2 .given)))
 
 pub resolve-names-spec : {M : Type 1} → statement M
 resolve-names-spec = tie.close (tie.spec (search needs) (search needs) (search needs) (search needs)

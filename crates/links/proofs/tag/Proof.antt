@@ -14,19 +14,27 @@ returns c = (rw (eq-eqb _ _ (c .if1 .taken)), omega arith)
 
 returns-2 : tie.Need-returns-2
 unfolding tagOf
-returns-2 c = (rw (ne-eqb _ _ (c .before .before .before .if1 .left), sym (c .before .before .is-port .ensures) ∙ c .before .if2 .taken) (c .space .ensures .0), c .space .ensures .1)
+returns-2 c =
+    let at-if2 = c .before in let at-is-port = at-if2 .before in let at-if1 = at-is-port .before in
+    (rw (ne-eqb _ _ (at-if1 .if1 .left), sym (at-is-port .is-port .ensures) ∙ at-if2 .if2 .taken) (c .space .ensures .0), c .space .ensures .1)
 
 returns-3 : tie.Need-returns-3
 unfolding tagOf
-returns-3 c = (rw (ne-eqb _ _ (c .before .before .before .before .before .if1 .left), sym (c .before .before .before .before .is-port .ensures) ∙ c .before .before .before .if2 .left, sym (c .before .before .is-replaced-by .ensures) ∙ c .before .if3 .taken) (c .space2 .ensures .0), c .space2 .ensures .1)
+returns-3 c =
+    let at-if3 = c .before in let at-is-replaced-by = at-if3 .before in let at-if2 = at-is-replaced-by .before in let at-is-port = at-if2 .before in let at-if1 = at-is-port .before in
+    (rw (ne-eqb _ _ (at-if1 .if1 .left), sym (at-is-port .is-port .ensures) ∙ at-if2 .if2 .left, sym (at-is-replaced-by .is-replaced-by .ensures) ∙ at-if3 .if3 .taken) (c .space2 .ensures .0), c .space2 .ensures .1)
 
 returns-4 : tie.Need-returns-4
 unfolding tagOf
-returns-4 c = (rw (ne-eqb _ _ (c .before .before .before .before .before .before .if1 .left), sym (c .before .before .before .before .before .is-port .ensures) ∙ c .before .before .before .before .if2 .left, sym (c .before .before .before .is-replaced-by .ensures) ∙ c .before .before .if3 .left, c .before .if4 .taken) (c .space3 .ensures .0), c .space3 .ensures .1)
+returns-4 c =
+    let at-if4 = c .before in let at-if3 = at-if4 .before in let at-is-replaced-by = at-if3 .before in let at-if2 = at-is-replaced-by .before in let at-is-port = at-if2 .before in let at-if1 = at-is-port .before in
+    (rw (ne-eqb _ _ (at-if1 .if1 .left), sym (at-is-port .is-port .ensures) ∙ at-if2 .if2 .left, sym (at-is-replaced-by .is-replaced-by .ensures) ∙ at-if3 .if3 .left, at-if4 .if4 .taken) (c .space3 .ensures .0), c .space3 .ensures .1)
 
 returns-5 : tie.Need-returns-5
 unfolding tagOf
-returns-5 c = (rw (ne-eqb _ _ (c .before .before .before .before .before .before .if1 .left), sym (c .before .before .before .before .before .is-port .ensures) ∙ c .before .before .before .before .if2 .left, sym (c .before .before .before .is-replaced-by .ensures) ∙ c .before .before .if3 .left, c .before .if4 .left) (c .space4 .ensures .0), c .space4 .ensures .1)
+returns-5 c =
+    let at-if4 = c .before in let at-if3 = at-if4 .before in let at-is-replaced-by = at-if3 .before in let at-if2 = at-is-replaced-by .before in let at-is-port = at-if2 .before in let at-if1 = at-is-port .before in
+    (rw (ne-eqb _ _ (at-if1 .if1 .left), sym (at-is-port .is-port .ensures) ∙ at-if2 .if2 .left, sym (at-is-replaced-by .is-replaced-by .ensures) ∙ at-if3 .if3 .left, at-if4 .if4 .left) (c .space4 .ensures .0), c .space4 .ensures .1)
 
 pub tag-spec : {M : Type 1} → statement M
 tag-spec = tie.close (tie.spec returns (search needs) (search needs) returns-2 (search needs) (search needs) returns-3

@@ -24,10 +24,14 @@ cell-requires : tie.Need-cell-requires Inv-loop μ-loop
 cell-requires c κs = omega (arith, c .before .loop .inv .1 .room, c .before .loop .inv .1 .low)
 
 returns : tie.Need-returns Inv-loop μ-loop
-returns c = sym (c .before .before .before .loop .inv .0 ∙ follow-end (c .before .before .before .before .before .args .el .now) (c .before .before .before .loop .n) (sym (c .before .cell .ensures .0) ∙ c .if1 .taken))
+returns c =
+    let at-cell = c .before in let at-loop = at-cell .before .before in let at-start = at-loop .before .before in
+    sym (at-loop .loop .inv .0 ∙ follow-end (at-start .args .el .now) (at-loop .loop .n) (sym (at-cell .cell .ensures .0) ∙ c .if1 .taken))
 
 loop-again : tie.Need-loop-again Inv-loop μ-loop
-loop-again c = (c .before .before .before .loop .inv .0 ∙ follow-more (c .before .before .before .before .before .args .el .now) (c .before .before .before .loop .n) (c .before .before .before .loop .z) (omega arith) (c .before .cell .ensures .0) (c .if1 .left), stepping-on (c .before .before .before .loop .inv .1) (c .before .cell .ensures .0) (c .if1 .left))
+loop-again c =
+    let at-cell = c .before in let at-loop = at-cell .before .before in let at-start = at-loop .before .before in
+    (at-loop .loop .inv .0 ∙ follow-more (at-start .args .el .now) (at-loop .loop .n) (at-loop .loop .z) (omega arith) (at-cell .cell .ensures .0) (c .if1 .left), stepping-on (at-loop .loop .inv .1) (at-cell .cell .ensures .0) (c .if1 .left))
 
 returns-2 : tie.Need-returns-2 Inv-loop μ-loop
 returns-2 c = sym (c .before .loop .inv .0 ∙ follow-last (c .before .before .before .args .el .now) (c .before .loop .n) (c .loop-test .left))

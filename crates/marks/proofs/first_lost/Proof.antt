@@ -26,28 +26,42 @@ record-length-requires : tie.Need-record-length-requires Inv-loop μ-loop
 record-length-requires c κs = omega (arith, (c .before .before .before .before .before .before .before .pre .0) .planted .measured .linked .numbered .shadowed .narrow)
 
 add-next : tie.Need-add-next Inv-loop μ-loop
-add-next c = omega (arith, on-fits (here (record { width = c .before .before .before .before .before .before .before .before .args .w; bytes = c .before .before .before .before .before .before .before .before .args .s .now }) (aimsAtGone (record { width = c .before .before .before .before .before .before .before .before .args .w; bytes = c .before .before .before .before .before .before .before .before .args .s .now })) (c .before .before .before .loop .p) ((c .before .before .before .before .before .before .before .before .pre .0) .planted .measured .linked .numbered .shadowed .whole) (c .before .before .before .loop .inv .1) (c .before .before .loop-test .taken)) (c .record-length .ensures))
+add-next c =
+    let at-loop-test = c .before .before in let at-loop = at-loop-test .before in let at-start = at-loop .before .before .before .before .before in
+    omega (arith, on-fits (here (record { width = at-start .args .w; bytes = at-start .args .s .now }) (aimsAtGone (record { width = at-start .args .w; bytes = at-start .args .s .now })) (at-loop .loop .p) ((at-start .pre .0) .planted .measured .linked .numbered .shadowed .whole) (at-loop .loop .inv .1) (at-loop-test .loop-test .taken)) (c .record-length .ensures))
 
 aims-at-gone-requires : tie.Need-aims-at-gone-requires Inv-loop μ-loop
 unfolding isReplacedBy kind
-aims-at-gone-requires c κs = ((c .before .before .before .before .before .before .before .before .before .before .pre .0), ((here (record { width = c .before .before .before .before .before .before .before .before .before .before .args .w; bytes = c .before .before .before .before .before .before .before .before .before .before .args .s .now }) (aimsAtGone (record { width = c .before .before .before .before .before .before .before .before .before .before .args .w; bytes = c .before .before .before .before .before .before .before .before .before .before .args .s .now })) (c .before .before .before .before .before .loop .p) ((c .before .before .before .before .before .before .before .before .before .before .pre .0) .planted .measured .linked .numbered .shadowed .whole) (c .before .before .before .before .before .loop .inv .1) (c .before .before .before .before .loop-test .taken)) .place, (sym (c .before .is-replaced-by .ensures) ∙ c .if1 .taken, c .before .before .before .before .before .before .before .before .before .before .pre .1)))
+aims-at-gone-requires c κs =
+    let at-is-replaced-by = c .before in let at-loop-test = at-is-replaced-by .before .before .before in let at-loop = at-loop-test .before in let at-start = at-loop .before .before .before .before .before in
+    ((at-start .pre .0), ((here (record { width = at-start .args .w; bytes = at-start .args .s .now }) (aimsAtGone (record { width = at-start .args .w; bytes = at-start .args .s .now })) (at-loop .loop .p) ((at-start .pre .0) .planted .measured .linked .numbered .shadowed .whole) (at-loop .loop .inv .1) (at-loop-test .loop-test .taken)) .place, (sym (at-is-replaced-by .is-replaced-by .ensures) ∙ c .if1 .taken, at-start .pre .1)))
 
 returns : tie.Need-returns Inv-loop μ-loop
 unfolding fault₁₁
-returns c = at-found (going-hit (here (record { width = c .before .before .before .before .before .before .before .before .before .before .before .before .args .w; bytes = c .before .before .before .before .before .before .before .before .before .before .before .before .args .s .now }) (aimsAtGone (record { width = c .before .before .before .before .before .before .before .before .before .before .before .before .args .w; bytes = c .before .before .before .before .before .before .before .before .before .before .before .before .args .s .now })) (c .before .before .before .before .before .before .before .loop .p) ((c .before .before .before .before .before .before .before .before .before .before .before .before .pre .0) .planted .measured .linked .numbered .shadowed .whole) (c .before .before .before .before .before .before .before .loop .inv .1) (c .before .before .before .before .before .before .loop-test .taken)) (sym (c .before .aims-at-gone .ensures) ∙ c .if2 .taken))
+returns c =
+    let at-aims-at-gone = c .before in let at-loop-test = at-aims-at-gone .before .before .before .before .before in let at-loop = at-loop-test .before in let at-start = at-loop .before .before .before .before .before in
+    at-found (going-hit (here (record { width = at-start .args .w; bytes = at-start .args .s .now }) (aimsAtGone (record { width = at-start .args .w; bytes = at-start .args .s .now })) (at-loop .loop .p) ((at-start .pre .0) .planted .measured .linked .numbered .shadowed .whole) (at-loop .loop .inv .1) (at-loop-test .loop-test .taken)) (sym (at-aims-at-gone .aims-at-gone .ensures) ∙ c .if2 .taken))
 
 loop-less : tie.Need-loop-less Inv-loop μ-loop
-loop-less c = omega (arith, on-fits (here (record { width = c .before .before .before .before .before .before .before .before .before .before .before .before .args .w; bytes = c .before .before .before .before .before .before .before .before .before .before .before .before .args .s .now }) (aimsAtGone (record { width = c .before .before .before .before .before .before .before .before .before .before .before .before .args .w; bytes = c .before .before .before .before .before .before .before .before .before .before .before .before .args .s .now })) (c .before .before .before .before .before .before .before .loop .p) ((c .before .before .before .before .before .before .before .before .before .before .before .before .pre .0) .planted .measured .linked .numbered .shadowed .whole) (c .before .before .before .before .before .before .before .loop .inv .1) (c .before .before .before .before .before .before .loop-test .taken)) (c .before .before .before .before .record-length .ensures), on-more _ _ (c .before .before .before .before .record-length .ensures))
+loop-less c =
+    let at-record-length = c .before .before .before .before in let at-loop-test = at-record-length .before .before in let at-loop = at-loop-test .before in let at-start = at-loop .before .before .before .before .before in
+    omega (arith, on-fits (here (record { width = at-start .args .w; bytes = at-start .args .s .now }) (aimsAtGone (record { width = at-start .args .w; bytes = at-start .args .s .now })) (at-loop .loop .p) ((at-start .pre .0) .planted .measured .linked .numbered .shadowed .whole) (at-loop .loop .inv .1) (at-loop-test .loop-test .taken)) (at-record-length .record-length .ensures), on-more _ _ (at-record-length .record-length .ensures))
 
 loop-again : tie.Need-loop-again Inv-loop μ-loop
-loop-again c = (on-fits (here (record { width = c .before .before .before .before .before .before .before .before .before .before .before .before .args .w; bytes = c .before .before .before .before .before .before .before .before .before .before .before .before .args .s .now }) (aimsAtGone (record { width = c .before .before .before .before .before .before .before .before .before .before .before .before .args .w; bytes = c .before .before .before .before .before .before .before .before .before .before .before .before .args .s .now })) (c .before .before .before .before .before .before .before .loop .p) ((c .before .before .before .before .before .before .before .before .before .before .before .before .pre .0) .planted .measured .linked .numbered .shadowed .whole) (c .before .before .before .before .before .before .before .loop .inv .1) (c .before .before .before .before .before .before .loop-test .taken)) (c .before .before .before .before .record-length .ensures), going-on (here (record { width = c .before .before .before .before .before .before .before .before .before .before .before .before .args .w; bytes = c .before .before .before .before .before .before .before .before .before .before .before .before .args .s .now }) (aimsAtGone (record { width = c .before .before .before .before .before .before .before .before .before .before .before .before .args .w; bytes = c .before .before .before .before .before .before .before .before .before .before .before .before .args .s .now })) (c .before .before .before .before .before .before .before .loop .p) ((c .before .before .before .before .before .before .before .before .before .before .before .before .pre .0) .planted .measured .linked .numbered .shadowed .whole) (c .before .before .before .before .before .before .before .loop .inv .1) (c .before .before .before .before .before .before .loop-test .taken)) (sym (c .before .aims-at-gone .ensures) ∙ c .if2 .left) (c .before .before .before .before .record-length .ensures))
+loop-again c =
+    let at-aims-at-gone = c .before in let at-record-length = at-aims-at-gone .before .before .before in let at-loop-test = at-record-length .before .before in let at-loop = at-loop-test .before in let at-start = at-loop .before .before .before .before .before in
+    (on-fits (here (record { width = at-start .args .w; bytes = at-start .args .s .now }) (aimsAtGone (record { width = at-start .args .w; bytes = at-start .args .s .now })) (at-loop .loop .p) ((at-start .pre .0) .planted .measured .linked .numbered .shadowed .whole) (at-loop .loop .inv .1) (at-loop-test .loop-test .taken)) (at-record-length .record-length .ensures), going-on (here (record { width = at-start .args .w; bytes = at-start .args .s .now }) (aimsAtGone (record { width = at-start .args .w; bytes = at-start .args .s .now })) (at-loop .loop .p) ((at-start .pre .0) .planted .measured .linked .numbered .shadowed .whole) (at-loop .loop .inv .1) (at-loop-test .loop-test .taken)) (sym (at-aims-at-gone .aims-at-gone .ensures) ∙ c .if2 .left) (at-record-length .record-length .ensures))
 
 loop-less-2 : tie.Need-loop-less-2 Inv-loop μ-loop
-loop-less-2 c = omega (arith, on-fits (here (record { width = c .before .before .before .before .before .before .before .before .before .before .args .w; bytes = c .before .before .before .before .before .before .before .before .before .before .args .s .now }) (aimsAtGone (record { width = c .before .before .before .before .before .before .before .before .before .before .args .w; bytes = c .before .before .before .before .before .before .before .before .before .before .args .s .now })) (c .before .before .before .before .before .loop .p) ((c .before .before .before .before .before .before .before .before .before .before .pre .0) .planted .measured .linked .numbered .shadowed .whole) (c .before .before .before .before .before .loop .inv .1) (c .before .before .before .before .loop-test .taken)) (c .before .before .record-length .ensures), on-more _ _ (c .before .before .record-length .ensures))
+loop-less-2 c =
+    let at-record-length = c .before .before in let at-loop-test = at-record-length .before .before in let at-loop = at-loop-test .before in let at-start = at-loop .before .before .before .before .before in
+    omega (arith, on-fits (here (record { width = at-start .args .w; bytes = at-start .args .s .now }) (aimsAtGone (record { width = at-start .args .w; bytes = at-start .args .s .now })) (at-loop .loop .p) ((at-start .pre .0) .planted .measured .linked .numbered .shadowed .whole) (at-loop .loop .inv .1) (at-loop-test .loop-test .taken)) (at-record-length .record-length .ensures), on-more _ _ (at-record-length .record-length .ensures))
 
 loop-again-2 : tie.Need-loop-again-2 Inv-loop μ-loop
 unfolding isReplacedBy kind
-loop-again-2 c = (on-fits (here (record { width = c .before .before .before .before .before .before .before .before .before .before .args .w; bytes = c .before .before .before .before .before .before .before .before .before .before .args .s .now }) (aimsAtGone (record { width = c .before .before .before .before .before .before .before .before .before .before .args .w; bytes = c .before .before .before .before .before .before .before .before .before .before .args .s .now })) (c .before .before .before .before .before .loop .p) ((c .before .before .before .before .before .before .before .before .before .before .pre .0) .planted .measured .linked .numbered .shadowed .whole) (c .before .before .before .before .before .loop .inv .1) (c .before .before .before .before .loop-test .taken)) (c .before .before .record-length .ensures), going-on (here (record { width = c .before .before .before .before .before .before .before .before .before .before .args .w; bytes = c .before .before .before .before .before .before .before .before .before .before .args .s .now }) (aimsAtGone (record { width = c .before .before .before .before .before .before .before .before .before .before .args .w; bytes = c .before .before .before .before .before .before .before .before .before .before .args .s .now })) (c .before .before .before .before .before .loop .p) ((c .before .before .before .before .before .before .before .before .before .before .pre .0) .planted .measured .linked .numbered .shadowed .whole) (c .before .before .before .before .before .loop .inv .1) (c .before .before .before .before .loop-test .taken)) (not-lost (record { width = c .before .before .before .before .before .before .before .before .before .before .args .w; bytes = c .before .before .before .before .before .before .before .before .before .before .args .s .now }) (c .before .before .before .before .before .loop .p) (sym (c .before .is-replaced-by .ensures) ∙ c .if1 .left)) (c .before .before .record-length .ensures))
+loop-again-2 c =
+    let at-is-replaced-by = c .before in let at-record-length = at-is-replaced-by .before in let at-loop-test = at-record-length .before .before in let at-loop = at-loop-test .before in let at-start = at-loop .before .before .before .before .before in
+    (on-fits (here (record { width = at-start .args .w; bytes = at-start .args .s .now }) (aimsAtGone (record { width = at-start .args .w; bytes = at-start .args .s .now })) (at-loop .loop .p) ((at-start .pre .0) .planted .measured .linked .numbered .shadowed .whole) (at-loop .loop .inv .1) (at-loop-test .loop-test .taken)) (at-record-length .record-length .ensures), going-on (here (record { width = at-start .args .w; bytes = at-start .args .s .now }) (aimsAtGone (record { width = at-start .args .w; bytes = at-start .args .s .now })) (at-loop .loop .p) ((at-start .pre .0) .planted .measured .linked .numbered .shadowed .whole) (at-loop .loop .inv .1) (at-loop-test .loop-test .taken)) (not-lost (record { width = at-start .args .w; bytes = at-start .args .s .now }) (at-loop .loop .p) (sym (at-is-replaced-by .is-replaced-by .ensures) ∙ c .if1 .left)) (at-record-length .record-length .ensures))
 
 returns-2 : tie.Need-returns-2 Inv-loop μ-loop
 unfolding fault₁₁

@@ -19,31 +19,47 @@ first-misclassed-requires : tie.Need-first-misclassed-requires
 first-misclassed-requires c κs = (c .before .before .before .before .before .before .before .before .before .pre .0) .aimed
 
 returns-2 : tie.Need-returns-2
-returns-2 c = (c .refuse2 .ensures ∙ (row-hit 10 _ _ (sym (c .before .before .p2 .given .1) ∙ c .before .before .before .before .first-misclassed .ensures) ∙ row-miss 9 _ _ (sym (c .before .before .before .before .before .enum-told .given .1) ∙ c .before .before .before .before .before .before .before .before .first-conflict .ensures .0)), λ z. not-zero _ 9 _ (c .refuse2 .ensures) z)
+returns-2 c =
+    let at-p2 = c .before .before in let at-first-misclassed = at-p2 .before .before in let at-enum-told = at-first-misclassed .before in let at-first-conflict = at-enum-told .before .before .before in
+    (c .refuse2 .ensures ∙ (row-hit 10 _ _ (sym (at-p2 .p2 .given .1) ∙ at-first-misclassed .first-misclassed .ensures) ∙ row-miss 9 _ _ (sym (at-enum-told .enum-told .given .1) ∙ at-first-conflict .first-conflict .ensures .0)), λ z. not-zero _ 9 _ (c .refuse2 .ensures) z)
 
 list-elements-requires : tie.Need-list-elements-requires
-list-elements-requires c κs = (ready (c .before .before .before .before .before .before .before .before .before .before .before .before .before .pre .0), c .before .before .before .before .before .before .before .before .before .before .before .before .before .pre .1 .1)
+list-elements-requires c κs = let at-start = c .before .before .before .before .before .before .before .before .before .before .before .before .before in (ready (at-start .pre .0), at-start .pre .1 .1)
 
 mark-gone-requires : tie.Need-mark-gone-requires
-mark-gone-requires c κs = let z = c .before .before .before .before .before .before .before .before .before .before .before .before .first-conflict .ensures .1 (c .before .before .before .before .before .before .before .before .before .enum-told .given .1) in (known (c .before .before .before .before .before .before .before .before .before .before .before .before .before .before .before .before .before .before .pre .0), (z .0, (z .1, (rows-listed (c .before .before .before .before .before .before .before .before .before .before .before .before .before .before .before .before .before .before .pre .0) (c .before .before .before .before .before .before .before .before .before .before .before .before .before .before .before .before .before .before .args .el .now) _ (c .before .before .before .before .before .before .before .before .before .before .before .before .before .before .before .before .before .before .pre .1 .1) (c .before .before .before .before .list-elements .ensures .1) (c .before .before .before .before .list-elements .ensures .0), c .before .before .before .before .before .before .before .before .before .before .before .before .before .before .before .before .before .before .pre .1 .0))))
+mark-gone-requires c κs =
+    let at-list-elements = c .before .before .before .before in let at-enum-told = at-list-elements .before .before .before .before .before in let at-first-conflict = at-enum-told .before .before .before in let at-start = at-first-conflict .before .before .before .before .before .before in
+    let z = at-first-conflict .first-conflict .ensures .1 (at-enum-told .enum-told .given .1) in (known (at-start .pre .0), (z .0, (z .1, (rows-listed (at-start .pre .0) (at-start .args .el .now) _ (at-start .pre .1 .1) (at-list-elements .list-elements .ensures .1) (at-list-elements .list-elements .ensures .0), at-start .pre .1 .0))))
 
 first-lost-requires : tie.Need-first-lost-requires
-first-lost-requires c κs = (ready (c .before .before .before .before .before .before .before .before .before .before .before .before .before .before .before .before .before .before .before .before .before .before .pre .0), (c .before .before .before .mark-gone .ensures .0, wide-still (c .before .before .before .before .before .before .before .before .before .before .before .before .before .before .before .before .before .before .before .before .before .before .pre .0) (c .before .before .before .before .before .before .before .before .before .before .before .before .before .before .before .before .before .before .before .before .before .before .args .el .now) _ (c .before .before .before .before .before .before .before .before .before .before .before .before .before .before .before .before .before .before .before .before .before .before .pre .1 .1) (c .before .before .before .before .before .before .before .before .list-elements .ensures .1) (c .before .before .before .before .before .before .before .before .list-elements .ensures .0) _ (c .before .before .before .mark-gone .ensures .1)))
+first-lost-requires c κs =
+    let at-mark-gone = c .before .before .before in let at-list-elements = at-mark-gone .before .before .before .before .before in let at-start = at-list-elements .before .before .before .before .before .before .before .before .before .before .before .before .before .before in
+    (ready (at-start .pre .0), (at-mark-gone .mark-gone .ensures .0, wide-still (at-start .pre .0) (at-start .args .el .now) _ (at-start .pre .1 .1) (at-list-elements .list-elements .ensures .1) (at-list-elements .list-elements .ensures .0) _ (at-mark-gone .mark-gone .ensures .1)))
 
 returns-3 : tie.Need-returns-3
-returns-3 c = (c .refuse3 .ensures ∙ (row-hit 11 _ _ (sym (c .before .before .p3 .given .1) ∙ c .before .before .before .before .first-lost .ensures) ∙ (row-miss 10 _ _ (sym (c .before .before .before .before .before .before .before .before .before .before .before .before .before .before .before .enum-told2 .given .1) ∙ c .before .before .before .before .before .before .before .before .before .before .before .before .before .before .before .before .before .first-misclassed .ensures) ∙ row-miss 9 _ _ (sym (c .before .before .before .before .before .before .before .before .before .before .before .before .before .before .before .before .before .before .enum-told .given .1) ∙ c .before .before .before .before .before .before .before .before .before .before .before .before .before .before .before .before .before .before .before .before .before .first-conflict .ensures .0))), λ z. not-zero _ 10 _ (c .refuse3 .ensures) z)
+returns-3 c =
+    let at-p3 = c .before .before in let at-first-lost = at-p3 .before .before in let at-enum-told2 = at-first-lost .before .before .before .before .before .before .before .before .before .before .before in let at-first-misclassed = at-enum-told2 .before .before in let at-enum-told = at-first-misclassed .before in let at-first-conflict = at-enum-told .before .before .before in
+    (c .refuse3 .ensures ∙ (row-hit 11 _ _ (sym (at-p3 .p3 .given .1) ∙ at-first-lost .first-lost .ensures) ∙ (row-miss 10 _ _ (sym (at-enum-told2 .enum-told2 .given .1) ∙ at-first-misclassed .first-misclassed .ensures) ∙ row-miss 9 _ _ (sym (at-enum-told .enum-told .given .1) ∙ at-first-conflict .first-conflict .ensures .0))), λ z. not-zero _ 10 _ (c .refuse3 .ensures) z)
 
 fill-steps-requires : tie.Need-fill-steps-requires
-fill-steps-requires c κs = (ready (c .before .before .before .before .before .before .before .before .before .before .before .before .before .before .before .before .before .before .before .before .before .before .before .before .before .before .pre .0), (found-nothing (sym (c .before .before .before .before .before .before .before .before .before .before .before .before .before .before .before .before .before .enum-told .given .1) ∙ c .before .before .before .before .before .before .before .before .before .before .before .before .before .before .before .before .before .before .before .before .first-conflict .ensures .0), (no-steps (c .before .before .before .before .before .before .before .before .before .before .before .before .before .before .before .before .before .before .before .before .before .before .before .before .before .before .pre .0) (c .before .before .before .before .before .before .before .before .before .before .before .before .before .before .before .before .before .before .before .before .before .before .before .before .before .before .args .el .now) _ (c .before .before .before .before .before .before .before .before .before .before .before .before .before .before .before .before .before .before .before .before .before .before .before .before .before .before .pre .1 .1) (c .before .before .before .before .before .before .before .before .before .before .before .before .list-elements .ensures .1) (c .before .before .before .before .before .before .before .before .before .before .before .before .list-elements .ensures .0) _ (c .before .before .before .before .before .before .before .mark-gone .ensures .1), wide-still (c .before .before .before .before .before .before .before .before .before .before .before .before .before .before .before .before .before .before .before .before .before .before .before .before .before .before .pre .0) (c .before .before .before .before .before .before .before .before .before .before .before .before .before .before .before .before .before .before .before .before .before .before .before .before .before .before .args .el .now) _ (c .before .before .before .before .before .before .before .before .before .before .before .before .before .before .before .before .before .before .before .before .before .before .before .before .before .before .pre .1 .1) (c .before .before .before .before .before .before .before .before .before .before .before .before .list-elements .ensures .1) (c .before .before .before .before .before .before .before .before .before .before .before .before .list-elements .ensures .0) _ (c .before .before .before .before .before .before .before .mark-gone .ensures .1))))
+fill-steps-requires c κs =
+    let at-mark-gone = c .before .before .before .before .before .before .before in let at-list-elements = at-mark-gone .before .before .before .before .before in let at-enum-told = at-list-elements .before .before .before .before .before in let at-first-conflict = at-enum-told .before .before .before in let at-start = at-first-conflict .before .before .before .before .before .before in
+    (ready (at-start .pre .0), (found-nothing (sym (at-enum-told .enum-told .given .1) ∙ at-first-conflict .first-conflict .ensures .0), (no-steps (at-start .pre .0) (at-start .args .el .now) _ (at-start .pre .1 .1) (at-list-elements .list-elements .ensures .1) (at-list-elements .list-elements .ensures .0) _ (at-mark-gone .mark-gone .ensures .1), wide-still (at-start .pre .0) (at-start .args .el .now) _ (at-start .pre .1 .1) (at-list-elements .list-elements .ensures .1) (at-list-elements .list-elements .ensures .0) _ (at-mark-gone .mark-gone .ensures .1))))
 
 first-misreferred-requires : tie.Need-first-misreferred-requires
-first-misreferred-requires c κs = (known (c .before .before .before .before .before .before .before .before .before .before .before .before .before .before .before .before .before .before .before .before .before .before .before .before .before .before .before .before .before .before .pre .0), (rows-stepped (c .before .before .before .before .before .before .before .before .before .before .before .before .before .before .before .before .before .before .before .before .before .before .before .before .before .before .before .before .before .before .pre .0) (c .before .before .before .before .before .before .before .before .before .before .before .before .before .before .before .before .before .before .before .before .before .before .before .before .before .before .before .before .before .before .args .el .now) _ (c .before .before .before .before .before .before .before .before .before .before .before .before .before .before .before .before .before .before .before .before .before .before .before .before .before .before .before .before .before .before .pre .1 .1) (c .before .before .before .before .before .before .before .before .before .before .before .before .before .before .before .before .list-elements .ensures .1) (c .before .before .before .before .before .before .before .before .before .before .before .before .before .before .before .before .list-elements .ensures .0) _ (c .before .before .before .before .before .before .before .before .before .before .before .mark-gone .ensures .1) (c .before .before .before .before .before .before .before .before .before .before .before .mark-gone .ensures .0) _ (c .before .before .before .fill-steps .ensures .1), (gones-stepped (c .before .before .before .before .before .before .before .before .before .before .before .before .before .before .before .before .before .before .before .before .before .before .before .before .before .before .before .before .before .before .pre .0) (c .before .before .before .before .before .before .before .before .before .before .before .before .before .before .before .before .before .before .before .before .before .before .before .before .before .before .before .before .before .before .args .el .now) _ (c .before .before .before .before .before .before .before .before .before .before .before .before .before .before .before .before .before .before .before .before .before .before .before .before .before .before .before .before .before .before .pre .1 .1) (c .before .before .before .before .before .before .before .before .before .before .before .before .before .before .before .before .list-elements .ensures .1) (c .before .before .before .before .before .before .before .before .before .before .before .before .before .before .before .before .list-elements .ensures .0) _ (c .before .before .before .before .before .before .before .before .before .before .before .mark-gone .ensures .1) (c .before .before .before .before .before .before .before .before .before .before .before .mark-gone .ensures .0) _ (c .before .before .before .fill-steps .ensures .1), (c .before .before .before .fill-steps .ensures .0, c .before .before .before .before .before .before .before .before .before .before .before .before .before .before .before .before .before .before .before .before .before .before .before .before .before .before .before .before .before .before .pre .1 .0))))
+first-misreferred-requires c κs =
+    let at-fill-steps = c .before .before .before in let at-mark-gone = at-fill-steps .before .before .before .before .before .before .before .before in let at-list-elements = at-mark-gone .before .before .before .before .before in let at-start = at-list-elements .before .before .before .before .before .before .before .before .before .before .before .before .before .before in
+    (known (at-start .pre .0), (rows-stepped (at-start .pre .0) (at-start .args .el .now) _ (at-start .pre .1 .1) (at-list-elements .list-elements .ensures .1) (at-list-elements .list-elements .ensures .0) _ (at-mark-gone .mark-gone .ensures .1) (at-mark-gone .mark-gone .ensures .0) _ (at-fill-steps .fill-steps .ensures .1), (gones-stepped (at-start .pre .0) (at-start .args .el .now) _ (at-start .pre .1 .1) (at-list-elements .list-elements .ensures .1) (at-list-elements .list-elements .ensures .0) _ (at-mark-gone .mark-gone .ensures .1) (at-mark-gone .mark-gone .ensures .0) _ (at-fill-steps .fill-steps .ensures .1), (at-fill-steps .fill-steps .ensures .0, at-start .pre .1 .0))))
 
 returns-4 : tie.Need-returns-4
-returns-4 c = (c .refuse4 .ensures ∙ (row-hit 12 _ _ (sym (c .before .before .p4 .given .1) ∙ c .before .before .before .before .before .before .first-misreferred .ensures .0) ∙ (row-miss 11 _ _ (sym (c .before .before .before .before .before .before .before .before .before .before .before .before .enum-told3 .given .1) ∙ c .before .before .before .before .before .before .before .before .before .before .before .before .before .before .first-lost .ensures) ∙ (row-miss 10 _ _ (sym (c .before .before .before .before .before .before .before .before .before .before .before .before .before .before .before .before .before .before .before .before .before .before .before .before .before .enum-told2 .given .1) ∙ c .before .before .before .before .before .before .before .before .before .before .before .before .before .before .before .before .before .before .before .before .before .before .before .before .before .before .before .first-misclassed .ensures) ∙ row-miss 9 _ _ (sym (c .before .before .before .before .before .before .before .before .before .before .before .before .before .before .before .before .before .before .before .before .before .before .before .before .before .before .before .before .enum-told .given .1) ∙ c .before .before .before .before .before .before .before .before .before .before .before .before .before .before .before .before .before .before .before .before .before .before .before .before .before .before .before .before .before .before .before .first-conflict .ensures .0)))), λ z. not-zero _ 11 _ (c .refuse4 .ensures) z)
+returns-4 c =
+    let at-p4 = c .before .before in let at-first-misreferred = at-p4 .before .before .before .before in let at-enum-told3 = at-first-misreferred .before .before .before .before .before .before in let at-first-lost = at-enum-told3 .before .before in let at-enum-told2 = at-first-lost .before .before .before .before .before .before .before .before .before .before .before in let at-first-misclassed = at-enum-told2 .before .before in let at-enum-told = at-first-misclassed .before in let at-first-conflict = at-enum-told .before .before .before in
+    (c .refuse4 .ensures ∙ (row-hit 12 _ _ (sym (at-p4 .p4 .given .1) ∙ at-first-misreferred .first-misreferred .ensures .0) ∙ (row-miss 11 _ _ (sym (at-enum-told3 .enum-told3 .given .1) ∙ at-first-lost .first-lost .ensures) ∙ (row-miss 10 _ _ (sym (at-enum-told2 .enum-told2 .given .1) ∙ at-first-misclassed .first-misclassed .ensures) ∙ row-miss 9 _ _ (sym (at-enum-told .enum-told .given .1) ∙ at-first-conflict .first-conflict .ensures .0)))), λ z. not-zero _ 11 _ (c .refuse4 .ensures) z)
 
 returns-5 : tie.Need-returns-5
-returns-5 c = (c .refuse5 .ensures ∙ (no-rows ∙ (row-miss 12 _ _ (sym (c .before .enum-told4 .given .1) ∙ c .before .before .before .before .before .first-misreferred .ensures .0) ∙ (row-miss 11 _ _ (sym (c .before .before .before .before .before .before .before .before .before .before .before .enum-told3 .given .1) ∙ c .before .before .before .before .before .before .before .before .before .before .before .before .before .first-lost .ensures) ∙ (row-miss 10 _ _ (sym (c .before .before .before .before .before .before .before .before .before .before .before .before .before .before .before .before .before .before .before .before .before .before .before .before .enum-told2 .given .1) ∙ c .before .before .before .before .before .before .before .before .before .before .before .before .before .before .before .before .before .before .before .before .before .before .before .before .before .before .first-misclassed .ensures) ∙ row-miss 9 _ _ (sym (c .before .before .before .before .before .before .before .before .before .before .before .before .before .before .before .before .before .before .before .before .before .before .before .before .before .before .before .enum-told .given .1) ∙ c .before .before .before .before .before .before .before .before .before .before .before .before .before .before .before .before .before .before .before .before .before .before .before .before .before .before .before .before .before .before .first-conflict .ensures .0))))), λ z. composed (c .before .before .before .before .before .before .before .before .before .before .before .before .before .before .before .before .before .before .before .before .before .before .before .before .before .before .before .before .before .before .before .before .before .before .before .before .pre .0) (c .before .before .before .before .before .before .before .before .before .before .before .before .before .before .before .before .before .before .before .before .before .before .before .before .before .before .before .before .before .before .before .before .before .before .before .before .args .el .now) _ (c .before .before .before .before .before .before .before .before .before .before .before .before .before .before .before .before .before .before .before .before .before .before .before .before .before .before .before .before .before .before .before .before .before .before .before .before .pre .1 .1) (c .before .before .before .before .before .before .before .before .before .before .before .before .before .before .before .before .before .before .before .before .before .before .list-elements .ensures .1) (c .before .before .before .before .before .before .before .before .before .before .before .before .before .before .before .before .before .before .before .before .before .before .list-elements .ensures .0) _ (c .before .before .before .before .before .before .before .before .before .before .before .before .before .before .before .before .before .mark-gone .ensures .1) (c .before .before .before .before .before .before .before .before .before .before .before .before .before .before .before .before .before .mark-gone .ensures .0) _ (c .before .before .before .before .before .before .before .before .before .fill-steps .ensures .1) _ (found-nothing (sym (c .before .before .before .before .before .before .before .before .before .before .before .before .before .before .before .before .before .before .before .before .before .before .before .before .before .before .before .enum-told .given .1) ∙ c .before .before .before .before .before .before .before .before .before .before .before .before .before .before .before .before .before .before .before .before .before .before .before .before .before .before .before .before .before .before .first-conflict .ensures .0)) (found-nothing (sym (c .before .before .before .before .before .before .before .before .before .before .before .before .before .before .before .before .before .before .before .before .before .before .before .before .enum-told2 .given .1) ∙ c .before .before .before .before .before .before .before .before .before .before .before .before .before .before .before .before .before .before .before .before .before .before .before .before .before .before .first-misclassed .ensures)) (found-nothing (sym (c .before .before .before .before .before .before .before .before .before .before .before .enum-told3 .given .1) ∙ c .before .before .before .before .before .before .before .before .before .before .before .before .before .first-lost .ensures)) (found-nothing (sym (c .before .enum-told4 .given .1) ∙ c .before .before .before .before .before .first-misreferred .ensures .0)) (c .before .before .before .before .before .before .before .before .before .before .before .before .before .before .before .before .before .before .before .before .before .before .before .before .before .before .before .before .before .before .before .before .before .before .before .before .pre .1 .0) (c .before .before .before .before .before .before .before .before .before .fill-steps .ensures .0) (c .before .before .before .before .before .first-misreferred .ensures .1 .0) (c .before .before .before .before .before .first-misreferred .ensures .1 .1))
+returns-5 c =
+    let at-enum-told4 = c .before in let at-first-misreferred = at-enum-told4 .before .before .before .before in let at-fill-steps = at-first-misreferred .before .before .before .before in let at-enum-told3 = at-fill-steps .before .before in let at-first-lost = at-enum-told3 .before .before in let at-mark-gone = at-first-lost .before .before .before .before in let at-list-elements = at-mark-gone .before .before .before .before .before in let at-enum-told2 = at-list-elements .before .before in let at-first-misclassed = at-enum-told2 .before .before in let at-enum-told = at-first-misclassed .before in let at-first-conflict = at-enum-told .before .before .before in let at-start = at-first-conflict .before .before .before .before .before .before in
+    (c .refuse5 .ensures ∙ (no-rows ∙ (row-miss 12 _ _ (sym (at-enum-told4 .enum-told4 .given .1) ∙ at-first-misreferred .first-misreferred .ensures .0) ∙ (row-miss 11 _ _ (sym (at-enum-told3 .enum-told3 .given .1) ∙ at-first-lost .first-lost .ensures) ∙ (row-miss 10 _ _ (sym (at-enum-told2 .enum-told2 .given .1) ∙ at-first-misclassed .first-misclassed .ensures) ∙ row-miss 9 _ _ (sym (at-enum-told .enum-told .given .1) ∙ at-first-conflict .first-conflict .ensures .0))))), λ z. composed (at-start .pre .0) (at-start .args .el .now) _ (at-start .pre .1 .1) (at-list-elements .list-elements .ensures .1) (at-list-elements .list-elements .ensures .0) _ (at-mark-gone .mark-gone .ensures .1) (at-mark-gone .mark-gone .ensures .0) _ (at-fill-steps .fill-steps .ensures .1) _ (found-nothing (sym (at-enum-told .enum-told .given .1) ∙ at-first-conflict .first-conflict .ensures .0)) (found-nothing (sym (at-enum-told2 .enum-told2 .given .1) ∙ at-first-misclassed .first-misclassed .ensures)) (found-nothing (sym (at-enum-told3 .enum-told3 .given .1) ∙ at-first-lost .first-lost .ensures)) (found-nothing (sym (at-enum-told4 .enum-told4 .given .1) ∙ at-first-misreferred .first-misreferred .ensures .0)) (at-start .pre .1 .0) (at-fill-steps .fill-steps .ensures .0) (at-first-misreferred .first-misreferred .ensures .1 .0) (at-first-misreferred .first-misreferred .ensures .1 .1))
 
 pub judge-marks-spec : {M : Type 1} → statement M
 judge-marks-spec = tie.close (tie.spec (search needs) first-conflict-requires (search needs) (search needs) returns

@@ -6,7 +6,9 @@ use Rattle.marks.proofs.put_element.Statement.{statement}
 use Rattle.marks.proofs.put_element.Tie as tie
 
 returns : tie.Need-returns
-returns c = c .before .before .set-cell3 .ensures ∙ rw (c .before .before .before .before .before .before .set-cell2 .ensures, c .before .before .before .before .before .before .before .before .before .before .set-cell .ensures)
+returns c =
+    let at-set-cell3 = c .before .before in let at-set-cell2 = at-set-cell3 .before .before .before .before in let at-set-cell = at-set-cell2 .before .before .before .before in
+    at-set-cell3 .set-cell3 .ensures ∙ rw (at-set-cell2 .set-cell2 .ensures, at-set-cell .set-cell .ensures)
 
 pub put-element-spec : {M : Type 1} → statement M
 put-element-spec = tie.close (tie.spec (search needs) (search needs) (search needs) (search needs) (search needs)

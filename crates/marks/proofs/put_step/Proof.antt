@@ -6,10 +6,14 @@ use Rattle.marks.proofs.put_step.Statement.{statement}
 use Rattle.marks.proofs.put_step.Tie as tie
 
 returns : tie.Need-returns
-returns c = rw (sym (c .before .before .before .before .before .is-replaced-by .ensures) ∙ c .before .before .before .before .if1 .taken) (c .before .before .set-cell .ensures)
+returns c =
+    let at-set-cell = c .before .before in let at-if1 = at-set-cell .before .before in let at-is-replaced-by = at-if1 .before in
+    rw (sym (at-is-replaced-by .is-replaced-by .ensures) ∙ at-if1 .if1 .taken) (at-set-cell .set-cell .ensures)
 
 returns-2 : tie.Need-returns-2
-returns-2 c = rw (sym (c .before .before .before .before .before .is-replaced-by .ensures) ∙ c .before .before .before .before .if1 .left) (c .before .before .set-cell2 .ensures)
+returns-2 c =
+    let at-set-cell2 = c .before .before in let at-if1 = at-set-cell2 .before .before in let at-is-replaced-by = at-if1 .before in
+    rw (sym (at-is-replaced-by .is-replaced-by .ensures) ∙ at-if1 .if1 .left) (at-set-cell2 .set-cell2 .ensures)
 
 pub put-step-spec : {M : Type 1} → statement M
 put-step-spec = tie.close (tie.spec (search needs) (search needs) (search needs) (search needs) (search needs) returns

@@ -11,25 +11,39 @@ use Rattle.marks.proofs.refers_to_none.Statement.{statement}
 use Rattle.marks.proofs.refers_to_none.Tie as tie
 
 add-a : tie.Need-add-a
-add-a c = omega (arith, reference-low (record { width = c .before .args .w; bytes = c .before .args .s .now }) (c .before .args .p) (c .before .pre .1 .1 .0) (c .before .pre .1 .1 .1), c .before .pre .0, c .before .pre .1 .0)
+add-a c =
+    let at-start = c .before in
+    omega (arith, reference-low (record { width = at-start .args .w; bytes = at-start .args .s .now }) (at-start .args .p) (at-start .pre .1 .1 .0) (at-start .pre .1 .1 .1), at-start .pre .0, at-start .pre .1 .0)
 
 add-a-2 : tie.Need-add-a-2
-add-a-2 c = omega (arith, reference-low (record { width = c .before .args .w; bytes = c .before .args .s .now }) (c .before .args .p) (c .before .pre .1 .1 .0) (c .before .pre .1 .1 .1), c .before .pre .0, c .before .pre .1 .0)
+add-a-2 c =
+    let at-start = c .before in
+    omega (arith, reference-low (record { width = at-start .args .w; bytes = at-start .args .s .now }) (at-start .args .p) (at-start .pre .1 .1 .0) (at-start .pre .1 .1 .1), at-start .pre .0, at-start .pre .1 .0)
 
 add-a-3 : tie.Need-add-a-3
-add-a-3 c = omega (arith, reference-low (record { width = c .before .args .w; bytes = c .before .args .s .now }) (c .before .args .p) (c .before .pre .1 .1 .0) (c .before .pre .1 .1 .1), c .before .pre .0, c .before .pre .1 .0)
+add-a-3 c =
+    let at-start = c .before in
+    omega (arith, reference-low (record { width = at-start .args .w; bytes = at-start .args .s .now }) (at-start .args .p) (at-start .pre .1 .1 .0) (at-start .pre .1 .1 .1), at-start .pre .0, at-start .pre .1 .0)
 
 add-a-4 : tie.Need-add-a-4
-add-a-4 c = omega (arith, reference-low (record { width = c .before .args .w; bytes = c .before .args .s .now }) (c .before .args .p) (c .before .pre .1 .1 .0) (c .before .pre .1 .1 .1), c .before .pre .0, c .before .pre .1 .0)
+add-a-4 c =
+    let at-start = c .before in
+    omega (arith, reference-low (record { width = at-start .args .w; bytes = at-start .args .s .now }) (at-start .args .p) (at-start .pre .1 .1 .0) (at-start .pre .1 .1 .1), at-start .pre .0, at-start .pre .1 .0)
 
 add-b : tie.Need-add-b
-add-b c = omega (arith, reference-low (record { width = c .before .args .w; bytes = c .before .args .s .now }) (c .before .args .p) (c .before .pre .1 .1 .0) (c .before .pre .1 .1 .1), c .before .pre .0, c .before .pre .1 .0)
+add-b c =
+    let at-start = c .before in
+    omega (arith, reference-low (record { width = at-start .args .w; bytes = at-start .args .s .now }) (at-start .args .p) (at-start .pre .1 .1 .0) (at-start .pre .1 .1 .1), at-start .pre .0, at-start .pre .1 .0)
 
 part-is-blank-end : tie.Need-part-is-blank-end
-part-is-blank-end c = omega (arith, reference-low (record { width = c .before .args .w; bytes = c .before .args .s .now }) (c .before .args .p) (c .before .pre .1 .1 .0) (c .before .pre .1 .1 .1), c .before .pre .0, c .before .pre .1 .0)
+part-is-blank-end c =
+    let at-start = c .before in
+    omega (arith, reference-low (record { width = at-start .args .w; bytes = at-start .args .s .now }) (at-start .args .p) (at-start .pre .1 .1 .0) (at-start .pre .1 .1 .1), at-start .pre .0, at-start .pre .1 .0)
 
 returns : tie.Need-returns
-returns c = let a = c .before .before .before .args in c .is-blank .ensures ∙ ap isBlank (field-is (a .w) (a .s .now) (a .p + 1 + (a .w + (1 + a .w))) ∙ reference-is (record { width = c .before .before .before .args .w; bytes = c .before .before .before .args .s .now }) (a .p))
+returns c =
+    let at-start = c .before .before .before in
+    let a = at-start .args in c .is-blank .ensures ∙ ap isBlank (field-is (a .w) (a .s .now) (a .p + 1 + (a .w + (1 + a .w))) ∙ reference-is (record { width = at-start .args .w; bytes = at-start .args .s .now }) (a .p))
 
 pub refers-to-none-spec : {M : Type 1} → statement M
 refers-to-none-spec = tie.close (tie.spec add-a add-a-2 add-a-3 add-a-4 add-b (search needs) (search needs)

@@ -18,7 +18,9 @@ sort-requires : tie.Need-sort-requires
 sort-requires c κs = let s = c .before .before .before .before .before in let e = length-take-le (s .args .n) (s .args .index .now) (s .pre .1 .0) in (s .pre .0, (omega arith, (omega arith, omega arith)))
 
 returns : tie.Need-returns
-returns c = let s = c .before .before .before .before .before .before .before .before .before in ap (λ (y : List ℕ). y ++ drop (s .args .n) (s .args .index .now)) (c .before .before .before .sort .ensures ∙ ap (ordered (keyedName (s .args .keys .now) (s .args .bytes .now) (s .args .l)) 0) (length-take-le (s .args .n) (s .args .index .now) (s .pre .1 .0)))
+returns c =
+    let at-sort = c .before .before .before in let at-place = at-sort .before .before .before .before .before .before in
+    let s = at-place in ap (λ (y : List ℕ). y ++ drop (s .args .n) (s .args .index .now)) (at-sort .sort .ensures ∙ ap (ordered (keyedName (s .args .keys .now) (s .args .bytes .now) (s .args .l)) 0) (length-take-le (s .args .n) (s .args .index .now) (s .pre .1 .0)))
 
 pub build-spec : {M : Type 1} → statement M
 build-spec = tie.close (tie.spec (search needs) slice-aggregate-sort (search needs) sort-requires (search needs)

@@ -17,7 +17,9 @@ abbrev μ-loop : tie.MeasureT-loop
 μ-loop from to₀ i₀ to i = length from - i
 
 loop-again : tie.Need-loop-again Inv-loop μ-loop
-loop-again c = let t = c .before in let h : t .before .loop .i < length (t .before .loop .to) = omega arith in (omega arith, (simp length-set (t .before .loop .inv .1 .0), copy-more _ _ _ h (t .loop-test .taken) ∙ t .before .loop .inv .1 .1))
+loop-again c =
+    let at-place = c .before in
+    let t = at-place in let h : t .before .loop .i < length (t .before .loop .to) = omega arith in (omega arith, (simp length-set (t .before .loop .inv .1 .0), copy-more _ _ _ h (t .loop-test .taken) ∙ t .before .loop .inv .1 .1))
 
 returns : tie.Need-returns Inv-loop μ-loop
 returns c = copy-done _ _ _ (c .loop-test .left) (c .before .loop .inv .0) (omega arith) (c .before .loop .inv .1 .1)

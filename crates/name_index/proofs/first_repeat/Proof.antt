@@ -26,10 +26,14 @@ cast-q : tie.Need-cast-q Inv-loop μ-loop
 cast-q c = omega (arith, c .shared-slice-known5 .given (c .before .before .before .before .loop .k - 1))
 
 is-twin-requires : tie.Need-is-twin-requires Inv-loop μ-loop
-is-twin-requires c κs = (c .before .before .before .before .before .before .before .before .pre .keyed, (ranks (c .before .before .before .before .before .before .before .before .pre) .below (c .before .before .before .before .loop .k - 1) (omega arith), ranks (c .before .before .before .before .before .before .before .before .pre) .below (c .before .before .before .before .loop .k) (c .before .before .before .loop-test .taken)))
+is-twin-requires c κs =
+    let at-loop-test = c .before .before .before in let at-loop = at-loop-test .before in let at-start = at-loop .before .before .before .before in
+    (at-start .pre .keyed, (ranks (at-start .pre) .below (at-loop .loop .k - 1) (omega arith), ranks (at-start .pre) .below (at-loop .loop .k) (at-loop-test .loop-test .taken)))
 
 loop-again : tie.Need-loop-again Inv-loop μ-loop
-loop-again c = (omega arith, seen-new _ _ _ (ranks (c .before .before .before .before .before .before .before .before .before .before .pre)) (c .before .before .before .before .before .before .loop .inv .1) (c .before .before .before .before .before .before .loop .inv .0) (c .before .before .before .before .before .loop-test .taken) (c .before .before .before .if1 .taken) (sym (c .before .is-twin .ensures) ∙ c .if2 .taken))
+loop-again c =
+    let at-is-twin = c .before in let at-if1 = at-is-twin .before .before in let at-loop-test = at-if1 .before .before in let at-loop = at-loop-test .before in let at-start = at-loop .before .before .before .before in
+    (omega arith, seen-new _ _ _ (ranks (at-start .pre)) (at-loop .loop .inv .1) (at-loop .loop .inv .0) (at-loop-test .loop-test .taken) (at-if1 .if1 .taken) (sym (at-is-twin .is-twin .ensures) ∙ c .if2 .taken))
 
 loop-again-2 : tie.Need-loop-again-2 Inv-loop μ-loop
 loop-again-2 c = (omega arith, seen-other _ _ _ (c .before .before .before .before .before .before .loop .inv .1) (sym (c .before .is-twin .ensures) ∙ c .if2 .left))
@@ -38,10 +42,14 @@ loop-again-3 : tie.Need-loop-again-3 Inv-loop μ-loop
 loop-again-3 c = (omega arith, seen-pass _ _ _ (c .before .before .before .loop .inv .1) (c .if1 .left))
 
 returns : tie.Need-returns Inv-loop μ-loop
-returns c = at-found (seen-at _ _ _ (ranks (c .before .before .before .before .before .before .pre)) (c .before .before .loop .inv .1) (c .before .loop-test .left) (c .if3 .taken))
+returns c =
+    let at-loop-test = c .before in let at-loop = at-loop-test .before in let at-start = at-loop .before .before .before .before in
+    at-found (seen-at _ _ _ (ranks (at-start .pre)) (at-loop .loop .inv .1) (at-loop-test .loop-test .left) (c .if3 .taken))
 
 returns-2 : tie.Need-returns-2 Inv-loop μ-loop
-returns-2 c = nothing-found (seen-none _ _ _ (ranks (c .before .before .before .before .before .before .pre)) (c .before .before .loop .inv .1) (c .before .loop-test .left) (c .if3 .left))
+returns-2 c =
+    let at-loop-test = c .before in let at-loop = at-loop-test .before in let at-start = at-loop .before .before .before .before in
+    nothing-found (seen-none _ _ _ (ranks (at-start .pre)) (at-loop .loop .inv .1) (at-loop-test .loop-test .left) (c .if3 .left))
 
 pub first-repeat-spec : {M : Type 1} → statement M
 first-repeat-spec = tie.close (tie.spec Inv-loop μ-loop loop-holds (search needs) (search needs) cast-p (search needs)

@@ -9,7 +9,9 @@ returns : tie.Need-returns
 returns c = hash-short _ (c .if1 .taken)
 
 returns-2 : tie.Need-returns-2
-returns-2 c = hash-long _ (c .before .before .before .before .if1 .left) (c .before .before .before .mix-eights .ensures) (c .before .before .four .ensures .0) (c .before .four2 .ensures .0) (c .mix .ensures)
+returns-2 c =
+    let at-four2 = c .before in let at-four = at-four2 .before in let at-mix-eights = at-four .before in let at-if1 = at-mix-eights .before in
+    hash-long _ (at-if1 .if1 .left) (at-mix-eights .mix-eights .ensures) (at-four .four .ensures .0) (at-four2 .four2 .ensures .0) (c .mix .ensures)
 
 pub hash-spec : {M : Type 1} → statement M
 hash-spec = tie.close (tie.spec returns (search needs) (search needs) (search needs) (search needs) (search needs)

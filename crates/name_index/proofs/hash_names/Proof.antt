@@ -21,7 +21,9 @@ name-at-requires : tie.Need-name-at-requires Inv-loop μ-loop
 name-at-requires c κs = whole-below (c .before .before .before .before .pre .whole) (c .loop-test .taken)
 
 loop-again : tie.Need-loop-again Inv-loop μ-loop
-loop-again c = (omega arith, filled-one (c .before .before .before .loop .inv .1) (omega (arith, c .before .before .before .loop .inv .1 .long, c .before .before .before .before .before .before .pre .enough)) (c .hash .ensures ∙ ap hashOf (c .before .name-at .ensures)))
+loop-again c =
+    let at-name-at = c .before in let at-loop = at-name-at .before .before in let at-start = at-loop .before .before .before in
+    (omega arith, filled-one (at-loop .loop .inv .1) (omega (arith, at-loop .loop .inv .1 .long, at-start .pre .enough)) (c .hash .ensures ∙ ap hashOf (at-name-at .name-at .ensures)))
 
 returns : tie.Need-returns Inv-loop μ-loop
 returns c = filled-end (c .before .loop .inv .1) (c .before .loop .inv .0) (c .loop-test .left) (c .before .before .before .before .pre .enough)

@@ -12,13 +12,15 @@ use Rattle.name_index.proofs.is_twin.Statement.{statement}
 use Rattle.name_index.proofs.is_twin.Tie as tie
 
 name-at-requires : tie.Need-name-at-requires
-name-at-requires c κs = whole-below (c .before .before .before .pre .0 .whole) (c .before .before .before .pre .1 .1)
+name-at-requires c κs = let at-start = c .before .before .before in whole-below (at-start .pre .0 .whole) (at-start .pre .1 .1)
 
 is-at-requires : tie.Need-is-at-requires
-is-at-requires c κs = keyed-below (c .before .before .before .before .pre .0) (c .before .before .before .before .pre .1 .0)
+is-at-requires c κs = let at-start = c .before .before .before .before in keyed-below (at-start .pre .0) (at-start .pre .1 .0)
 
 returns : tie.Need-returns
-returns c = c .is-at .ensures ∙ same-eq {x = keyedName (c .before .before .before .before .before .args .keys .now) (c .before .before .before .before .before .args .bytes .now) (c .before .before .before .before .before .args .l) (c .before .before .before .before .before .args .q)} refl (ap (λ (y : List ℕ). getD (c .before .before .before .before .before .args .keys .now) (c .before .before .before .before .before .args .p) 0 ∷ y) (c .before .name-at .ensures))
+returns c =
+    let at-name-at = c .before in let at-start = at-name-at .before .before .before .before in
+    c .is-at .ensures ∙ same-eq {x = keyedName (at-start .args .keys .now) (at-start .args .bytes .now) (at-start .args .l) (at-start .args .q)} refl (ap (λ (y : List ℕ). getD (at-start .args .keys .now) (at-start .args .p) 0 ∷ y) (at-name-at .name-at .ensures))
 
 pub is-twin-spec : {M : Type 1} → statement M
 is-twin-spec = tie.close (tie.spec (search needs) (search needs) name-at-requires is-at-requires returns)

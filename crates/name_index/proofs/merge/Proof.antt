@@ -36,16 +36,22 @@ shared-slice-read-out : tie.Need-shared-slice-read-out Inv-loop μ-loop
 shared-slice-read-out c = room (c .before)
 
 loop-again : tie.Need-loop-again Inv-loop μ-loop
-loop-again c = let k = room (c .before) in let a = c .before .before .before .before .before .before .before .before .before .before .args in let l = c .before .before .before .before .loop in (l .inv .0, (omega arith, left-one (l .inv .1 .1) (merge-right _ (a .a .now) (a .b .now) (l .i) (l .j) k (next (c .before))) (omega arith)))
+loop-again c =
+    let at-place = c .before in let at-loop = at-place .before .before .before in let at-start = at-loop .before .before .before .before .before .before in
+    let k = room (at-place) in let a = at-start .args in let l = at-loop .loop in (l .inv .0, (omega arith, left-one (l .inv .1 .1) (merge-right _ (a .a .now) (a .b .now) (l .i) (l .j) k (next (at-place))) (omega arith)))
 
 shared-slice-read-out-2 : tie.Need-shared-slice-read-out-2 Inv-loop μ-loop
 shared-slice-read-out-2 c = room-2 (c .before)
 
 loop-again-2 : tie.Need-loop-again-2 Inv-loop μ-loop
-loop-again-2 c = let k = room-2 (c .before) in let a = c .before .before .before .before .before .before .before .before .before .before .args in let l = c .before .before .before .before .loop in (omega arith, (l .inv .1 .0, left-one (l .inv .1 .1) (merge-left _ (a .a .now) (a .b .now) (l .i) (l .j) k (next-2 (c .before))) (omega arith)))
+loop-again-2 c =
+    let at-place = c .before in let at-loop = at-place .before .before .before in let at-start = at-loop .before .before .before .before .before .before in
+    let k = room-2 (at-place) in let a = at-start .args in let l = at-loop .loop in (omega arith, (l .inv .1 .0, left-one (l .inv .1 .1) (merge-left _ (a .a .now) (a .b .now) (l .i) (l .j) k (next-2 (at-place))) (omega arith)))
 
 returns : tie.Need-returns Inv-loop μ-loop
-returns c = let a = c .before .before .before .before .before .before .before .args in let l = c .before .loop in left-done (l .inv .1 .1) (merge-end (keyedName (a .keys .now) (a .bytes .now) (a .l)) (a .a .now) (a .b .now) (l .i) (l .j) (omega arith) (omega arith)) (length-merged _ _ _ ∙ sym (c .before .before .before .before .before .before .before .pre .1 .1 .1))
+returns c =
+    let at-loop = c .before in let at-start = at-loop .before .before .before .before .before .before in
+    let a = at-start .args in let l = at-loop .loop in left-done (l .inv .1 .1) (merge-end (keyedName (a .keys .now) (a .bytes .now) (a .l)) (a .a .now) (a .b .now) (l .i) (l .j) (omega arith) (omega arith)) (length-merged _ _ _ ∙ sym (at-start .pre .1 .1 .1))
 
 pub merge-spec : {M : Type 1} → statement M
 merge-spec = tie.close (tie.spec Inv-loop μ-loop (λ c. search needs) (search needs) (λ c κs. search needs)

@@ -15,13 +15,19 @@ merge-halves-requires : tie.Need-merge-halves-requires
 merge-halves-requires c κs = let s = c .before .before .before .before .before .before in (s .pre .0, (s .pre .1 .0, (s .pre .1 .1 .0, length-take-le _ (s .args .other .now) (s .pre .1 .1 .1))))
 
 slice-aggregate-copy : tie.Need-slice-aggregate-copy
-slice-aggregate-copy c = let s = c .before .before .before .before .before .before .before .before .before .before in let m = c .before .before .before .merge-halves in let out = m .last .1 .1 .1 .1 .1 .1 .0 in let n = length (s .args .runs .now) in let k = merged-halves-length _ (s .args .h) (s .args .runs .now) out (s .pre .1 .1 .0) (m .ensures) in let t = take-at out (drop n (s .args .other .now)) n k in sym (ap length t ∙ k)
+slice-aggregate-copy c =
+    let at-merge-halves = c .before .before .before in let at-place = at-merge-halves .before .before .before .before .before .before .before in
+    let s = at-place in let m = at-merge-halves .merge-halves in let out = m .last .1 .1 .1 .1 .1 .1 .0 in let n = length (s .args .runs .now) in let k = merged-halves-length _ (s .args .h) (s .args .runs .now) out (s .pre .1 .1 .0) (m .ensures) in let t = take-at out (drop n (s .args .other .now)) n k in sym (ap length t ∙ k)
 
 copy-requires : tie.Need-copy-requires
-copy-requires c κs = let s = c .before .before .before .before .before .before .before .before .before .before .before in let m = c .before .before .before .before .merge-halves in let out = m .last .1 .1 .1 .1 .1 .1 .0 in let n = length (s .args .runs .now) in let k = merged-halves-length _ (s .args .h) (s .args .runs .now) out (s .pre .1 .1 .0) (m .ensures) in let t = take-at out (drop n (s .args .other .now)) n k in ap length t ∙ k
+copy-requires c κs =
+    let at-merge-halves = c .before .before .before .before in let at-place = at-merge-halves .before .before .before .before .before .before .before in
+    let s = at-place in let m = at-merge-halves .merge-halves in let out = m .last .1 .1 .1 .1 .1 .1 .0 in let n = length (s .args .runs .now) in let k = merged-halves-length _ (s .args .h) (s .args .runs .now) out (s .pre .1 .1 .0) (m .ensures) in let t = take-at out (drop n (s .args .other .now)) n k in ap length t ∙ k
 
 returns : tie.Need-returns
-returns c = let s = c .before .before .before .before .before .before .before .before .before .before .before .before .before .before in let m = c .before .before .before .before .before .before .before .merge-halves in let out = m .last .1 .1 .1 .1 .1 .1 .0 in let n = length (s .args .runs .now) in let k = merged-halves-length _ (s .args .h) (s .args .runs .now) out (s .pre .1 .1 .0) (m .ensures) in let t = take-at out (drop n (s .args .other .now)) n k in c .before .before .copy .ensures ∙ (t ∙ m .ensures)
+returns c =
+    let at-copy = c .before .before in let at-merge-halves = at-copy .before .before .before .before .before in let at-place = at-merge-halves .before .before .before .before .before .before .before in
+    let s = at-place in let m = at-merge-halves .merge-halves in let out = m .last .1 .1 .1 .1 .1 .1 .0 in let n = length (s .args .runs .now) in let k = merged-halves-length _ (s .args .h) (s .args .runs .now) out (s .pre .1 .1 .0) (m .ensures) in let t = take-at out (drop n (s .args .other .now)) n k in at-copy .copy .ensures ∙ (t ∙ m .ensures)
 
 pub merge-back-spec : {M : Type 1} → statement M
 merge-back-spec = tie.close (tie.spec (search needs) slice-aggregate-merge-halves merge-halves-requires (search needs)

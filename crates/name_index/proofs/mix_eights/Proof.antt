@@ -18,7 +18,9 @@ loop-holds : tie.Need-loop-holds Inv-loop μ-loop
 loop-holds c = mixing-start _
 
 loop-again : tie.Need-loop-again Inv-loop μ-loop
-loop-again c = mixing-more (c .before .before .before .before .loop .inv) (c .before .before .before .loop-test .taken) (c .mix .ensures ∙ rw (c .before .before .four .ensures .0, c .before .four2 .ensures .0))
+loop-again c =
+    let at-four2 = c .before in let at-four = at-four2 .before in let at-loop-test = at-four .before in let at-loop = at-loop-test .before in
+    mixing-more (at-loop .loop .inv) (at-loop-test .loop-test .taken) (c .mix .ensures ∙ rw (at-four .four .ensures .0, at-four2 .four2 .ensures .0))
 
 returns : tie.Need-returns Inv-loop μ-loop
 returns c = mixing-done (c .before .loop .inv) (c .loop-test .left)

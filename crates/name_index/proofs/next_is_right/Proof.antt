@@ -20,10 +20,12 @@ cast-precedes-2 : tie.Need-cast-precedes-2
 cast-precedes-2 c = omega (arith, c .shared-slice-known6 .given (c .before .before .before .before .before .before .before .before .args .i))
 
 precedes-requires : tie.Need-precedes-requires
-precedes-requires c κs = (c .before .before .before .before .before .before .before .before .pre .0, (c .before .before .before .before .before .before .before .before .pre .1 .1 _ (c .before .before .if2 .left), c .before .before .before .before .before .before .before .before .pre .1 .0 _ (c .before .before .before .if1 .left)))
+precedes-requires c κs =
+    let at-if2 = c .before .before in let at-if1 = at-if2 .before in let at-start = at-if1 .before .before .before .before .before in
+    (at-start .pre .0, (at-start .pre .1 .1 _ (at-if2 .if2 .left), at-start .pre .1 .0 _ (at-if1 .if1 .left)))
 
 returns-3 : tie.Need-returns-3
-returns-3 c = c .precedes .ensures ∙ sym (both-left _ _ _ _ _ (c .before .before .before .before .if1 .left) (c .before .before .before .if2 .left))
+returns-3 c = let at-if2 = c .before .before .before in let at-if1 = at-if2 .before in c .precedes .ensures ∙ sym (both-left _ _ _ _ _ (at-if1 .if1 .left) (at-if2 .if2 .left))
 
 pub next-is-right-spec : {M : Type 1} → statement M
 next-is-right-spec = tie.close (tie.spec returns returns-2 (search needs) (search needs) cast-precedes (search needs)

@@ -24,13 +24,19 @@ cast-comes-first : tie.Need-cast-comes-first Inv-loop μ-loop
 cast-comes-first c = let l = c .before .before .loop in omega (arith, c .shared-slice-known5 .given (l .lo + (l .hi - l .lo) / 2))
 
 comes-first-requires : tie.Need-comes-first-requires Inv-loop μ-loop
-comes-first-requires c κs = let l = c .before .before .loop in keyed-below (c .before .before .before .before .before .before .before .pre .keyed) (ranks (c .before .before .before .before .before .before .before .pre) .below (l .lo + (l .hi - l .lo) / 2) (omega arith))
+comes-first-requires c κs =
+    let at-loop = c .before .before in let at-start = at-loop .before .before .before .before .before in
+    let l = at-loop .loop in keyed-below (at-start .pre .keyed) (ranks (at-start .pre) .below (l .lo + (l .hi - l .lo) / 2) (omega arith))
 
 loop-again : tie.Need-loop-again Inv-loop μ-loop
-loop-again c = let l = c .before .before .before .before .loop in narrow-up _ _ _ (ranks (c .before .before .before .before .before .before .before .before .before .pre)) (l .inv) (l .lo + (l .hi - l .lo) / 2) (omega arith) (omega arith) (sym (c .before .comes-first .ensures) ∙ c .if1 .taken)
+loop-again c =
+    let at-comes-first = c .before in let at-loop = at-comes-first .before .before .before in let at-start = at-loop .before .before .before .before .before in
+    let l = at-loop .loop in narrow-up _ _ _ (ranks (at-start .pre)) (l .inv) (l .lo + (l .hi - l .lo) / 2) (omega arith) (omega arith) (sym (at-comes-first .comes-first .ensures) ∙ c .if1 .taken)
 
 loop-again-2 : tie.Need-loop-again-2 Inv-loop μ-loop
-loop-again-2 c = let l = c .before .before .before .before .loop in narrow-down _ _ _ (ranks (c .before .before .before .before .before .before .before .before .before .pre)) (l .inv) (l .lo + (l .hi - l .lo) / 2) (omega arith) (omega arith) (sym (c .before .comes-first .ensures) ∙ c .if1 .left)
+loop-again-2 c =
+    let at-comes-first = c .before in let at-loop = at-comes-first .before .before .before in let at-start = at-loop .before .before .before .before .before in
+    let l = at-loop .loop in narrow-down _ _ _ (ranks (at-start .pre)) (l .inv) (l .lo + (l .hi - l .lo) / 2) (omega arith) (omega arith) (sym (at-comes-first .comes-first .ensures) ∙ c .if1 .left)
 
 returns : tie.Need-returns Inv-loop μ-loop
 returns c = narrow-done _ _ _ (c .before .loop .inv) (c .loop-test .left)

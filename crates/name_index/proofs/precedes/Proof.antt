@@ -11,13 +11,15 @@ use Rattle.name_index.proofs.precedes.Statement.{statement}
 use Rattle.name_index.proofs.precedes.Tie as tie
 
 name-at-requires : tie.Need-name-at-requires
-name-at-requires c κs = whole-below (c .before .before .before .pre .0 .whole) (c .before .before .before .pre .1 .1)
+name-at-requires c κs = let at-start = c .before .before .before in whole-below (at-start .pre .0 .whole) (at-start .pre .1 .1)
 
 comes-first-requires : tie.Need-comes-first-requires
-comes-first-requires c κs = keyed-below (c .before .before .before .before .pre .0) (c .before .before .before .before .pre .1 .0)
+comes-first-requires c κs = let at-start = c .before .before .before .before in keyed-below (at-start .pre .0) (at-start .pre .1 .0)
 
 returns : tie.Need-returns
-returns c = c .comes-first .ensures ∙ before-eq refl (ap (λ (y : List ℕ). getD (c .before .before .before .before .before .args .keys .now) (c .before .before .before .before .before .args .q) 0 ∷ y) (c .before .name-at .ensures))
+returns c =
+    let at-name-at = c .before in let at-start = at-name-at .before .before .before .before in
+    c .comes-first .ensures ∙ before-eq refl (ap (λ (y : List ℕ). getD (at-start .args .keys .now) (at-start .args .q) 0 ∷ y) (at-name-at .name-at .ensures))
 
 pub precedes-spec : {M : Type 1} → statement M
 precedes-spec = tie.close (tie.spec (search needs) (search needs) name-at-requires comes-first-requires returns)

@@ -13,7 +13,7 @@ cast-precedes-2 : tie.Need-cast-precedes-2
 cast-precedes-2 c = omega (arith, c .shared-slice-known5 .given (c .before .before .before .before .before .args .h - 1))
 
 precedes-requires : tie.Need-precedes-requires
-precedes-requires c κs = (c .before .before .before .before .before .pre .0, (c .before .before .before .before .before .pre .1 .0 _ (c .before .before .before .before .before .pre .1 .1 .1), c .before .before .before .before .before .pre .1 .0 (c .before .before .before .before .before .args .h - 1) (omega arith)))
+precedes-requires c κs = let at-start = c .before .before .before .before .before in (at-start .pre .0, (at-start .pre .1 .0 _ (at-start .pre .1 .1 .1), at-start .pre .1 .0 (at-start .args .h - 1) (omega arith)))
 
 pub runs-overlap-spec : {M : Type 1} → statement M
 runs-overlap-spec = tie.close (tie.spec (search needs) (search needs) cast-precedes (search needs) (search needs)

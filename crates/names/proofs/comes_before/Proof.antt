@@ -10,7 +10,9 @@ returns : tie.Need-returns
 returns c = run-shorter _ _ (omega arith) (c .before .before .if1 .taken) (c .before .common .ensures) (c .if2 .taken)
 
 returns-2 : tie.Need-returns-2
-returns-2 c = run-differ _ _ (omega arith) (c .before .before .before .before .if1 .taken) (c .before .before .before .common .ensures) (c .before .before .if2 .left)
+returns-2 c =
+    let at-if2 = c .before .before in let at-common = at-if2 .before in let at-if1 = at-common .before in
+    run-differ _ _ (omega arith) (at-if1 .if1 .taken) (at-common .common .ensures) (at-if2 .if2 .left)
 
 returns-3 : tie.Need-returns-3
 returns-3 c = run-longer _ _ (omega arith) (omega arith) (c .before .common2 .ensures) (c .if3 .taken) (c .before .before .if1 .left)

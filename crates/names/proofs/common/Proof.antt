@@ -18,7 +18,7 @@ returns : tie.Need-returns Inv-loop μ-loop
 returns c = run-stop _ _ (c .before .before .before .before .loop .inv) (ne-eqb _ _ (c .if1 .taken))
 
 loop-again : tie.Need-loop-again Inv-loop μ-loop
-loop-again c = passed-one _ _ (c .before .before .before .before .loop .inv) (c .before .before .before .loop-test .taken) (eq-eqb _ _ (c .if1 .left))
+loop-again c = let at-loop-test = c .before .before .before in let at-loop = at-loop-test .before in passed-one _ _ (at-loop .loop .inv) (at-loop-test .loop-test .taken) (eq-eqb _ _ (c .if1 .left))
 
 returns-2 : tie.Need-returns-2 Inv-loop μ-loop
 returns-2 c = run-end _ _ (c .before .loop .inv) (c .loop-test .left)

@@ -13,7 +13,7 @@ returns-2 : tie.Need-returns-2
 returns-2 c = sym (blank-stop _ _ (c .before .before .if1 .left) (c .if2 .taken))
 
 returns-3 : tie.Need-returns-3
-returns-3 c = c .is-same .ensures ∙ blank-shifted _ _ (c .before .before .before .before .before .if1 .left) (c .before .before .before .if2 .left)
+returns-3 c = let at-if2 = c .before .before .before in let at-if1 = at-if2 .before .before in c .is-same .ensures ∙ blank-shifted _ _ (at-if1 .if1 .left) (at-if2 .if2 .left)
 
 pub is-blank-from-spec : {M : Type 1} → statement M
 is-blank-from-spec = tie.close (tie.spec returns (search needs) returns-2 (search needs) (search needs) (search needs)

@@ -6,10 +6,10 @@ use Rattle.names.proofs.is_same.Statement.{statement}
 use Rattle.names.proofs.is_same.Tie as tie
 
 returns : tie.Need-returns
-returns c = other-length (c .before .before .before .args .a .now) (c .before .before .before .args .b .now) (c .if1 .taken)
+returns c = let at-start = c .before .before .before in other-length (at-start .args .a .now) (at-start .args .b .now) (c .if1 .taken)
 
 returns-2 : tie.Need-returns-2
-returns-2 c = run-same (c .before .before .before .before .args .a .now) (c .before .before .before .before .args .b .now) (c .before .if1 .left) (c .common .ensures)
+returns-2 c = let at-if1 = c .before in let at-start = at-if1 .before .before .before in run-same (at-start .args .a .now) (at-start .args .b .now) (at-if1 .if1 .left) (c .common .ensures)
 
 pub is-same-spec : {M : Type 1} → statement M
 is-same-spec = tie.close (tie.spec returns (search needs) returns-2)

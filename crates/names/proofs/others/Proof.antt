@@ -18,10 +18,14 @@ abbrev μ-loop : tie.MeasureT-loop
 μ-loop f i₀ i = length f - i
 
 returns : tie.Need-returns Inv-loop μ-loop
-returns c = run-is isOther (c .before .before .before .before .before .before .before .args .f .now) (run-stop _ _ (c .before .before .before .before .loop .inv) (sym (c .before .is-other .ensures) ∙ not-true (c .before .is-other .result) (c .if1 .taken)))
+returns c =
+    let at-is-other = c .before in let at-loop = at-is-other .before .before .before in let at-start = at-loop .before .before .before in
+    run-is isOther (at-start .args .f .now) (run-stop _ _ (at-loop .loop .inv) (sym (at-is-other .is-other .ensures) ∙ not-true (at-is-other .is-other .result) (c .if1 .taken)))
 
 loop-again : tie.Need-loop-again Inv-loop μ-loop
-loop-again c = passed-one _ _ (c .before .before .before .before .loop .inv) (c .before .before .before .loop-test .taken) (sym (c .before .is-other .ensures) ∙ not-false (c .before .is-other .result) (c .if1 .left))
+loop-again c =
+    let at-is-other = c .before in let at-loop-test = at-is-other .before .before in let at-loop = at-loop-test .before in
+    passed-one _ _ (at-loop .loop .inv) (at-loop-test .loop-test .taken) (sym (at-is-other .is-other .ensures) ∙ not-false (at-is-other .is-other .result) (c .if1 .left))
 
 returns-2 : tie.Need-returns-2 Inv-loop μ-loop
 returns-2 c = run-is isOther (c .before .before .before .before .args .f .now) (run-end _ _ (c .before .loop .inv) (c .loop-test .left))

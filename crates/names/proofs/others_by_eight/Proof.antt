@@ -20,7 +20,9 @@ loop-holds : tie.Need-loop-holds Inv-loop μ-loop
 loop-holds c = passed-start _ _
 
 loop-again : tie.Need-loop-again Inv-loop μ-loop
-loop-again c = passed-eight _ _ (c .before .before .before .loop .inv) (c .before .before .loop-test .taken) (sym (c .before .eight-others .ensures) ∙ not-false (c .before .eight-others .result) (c .if1 .left))
+loop-again c =
+    let at-eight-others = c .before in let at-loop-test = at-eight-others .before in let at-loop = at-loop-test .before in
+    passed-eight _ _ (at-loop .loop .inv) (at-loop-test .loop-test .taken) (sym (at-eight-others .eight-others .ensures) ∙ not-false (at-eight-others .eight-others .result) (c .if1 .left))
 
 pub others-by-eight-spec : {M : Type 1} → statement M
 others-by-eight-spec = tie.close (tie.spec Inv-loop μ-loop loop-holds (search needs) (search needs) (λ c. search needs)

@@ -16,16 +16,22 @@ returns : tie.Need-returns
 returns c = field-unpadded _ (c .before .before .others .ensures) (c .before .is-blank-from .ensures) (not-true _ (c .if1 .taken))
 
 returns-2 : tie.Need-returns-2
-returns-2 c = field-blank _ (c .before .before .before .others .ensures) (c .before .before .is-blank-from .ensures) (not-false _ (c .before .if1 .left)) (c .if2 .taken)
+returns-2 c =
+    let at-if1 = c .before in let at-is-blank-from = at-if1 .before in let at-others = at-is-blank-from .before in
+    field-blank _ (at-others .others .ensures) (at-is-blank-from .is-blank-from .ensures) (not-false _ (at-if1 .if1 .left)) (c .if2 .taken)
 
 shared-slice-read-is-first : tie.Need-shared-slice-read-is-first
-shared-slice-read-is-first c = omega (arith, c .before .before .before .before .others .ensures, while-length isOther (c .before .before .before .before .before .before .args .f .now))
+shared-slice-read-is-first c = let at-others = c .before .before .before .before in let at-start = at-others .before .before in omega (arith, at-others .others .ensures, while-length isOther (at-start .args .f .now))
 
 returns-3 : tie.Need-returns-3
-returns-3 c = field-named _ (c .before .before .before .before .before .before .others .ensures) (c .before .before .before .before .before .is-blank-from .ensures) (not-false _ (c .before .before .before .before .if1 .left)) (c .before .is-first .ensures) (c .if3 .taken)
+returns-3 c =
+    let at-is-first = c .before in let at-if1 = at-is-first .before .before .before in let at-is-blank-from = at-if1 .before in let at-others = at-is-blank-from .before in
+    field-named _ (at-others .others .ensures) (at-is-blank-from .is-blank-from .ensures) (not-false _ (at-if1 .if1 .left)) (at-is-first .is-first .ensures) (c .if3 .taken)
 
 returns-4 : tie.Need-returns-4
-returns-4 c = field-digit _ (c .before .before .before .before .before .before .others .ensures) (c .before .before .before .before .before .is-blank-from .ensures) (c .before .before .before .if2 .left) (c .before .is-first .ensures) (c .if3 .left)
+returns-4 c =
+    let at-is-first = c .before in let at-if2 = at-is-first .before .before in let at-is-blank-from = at-if2 .before .before in let at-others = at-is-blank-from .before in
+    field-digit _ (at-others .others .ensures) (at-is-blank-from .is-blank-from .ensures) (at-if2 .if2 .left) (at-is-first .is-first .ensures) (c .if3 .left)
 
 pub read-field-spec : {M : Type 1} → statement M
 read-field-spec = tie.close (tie.spec (search needs) is-blank-from-requires returns returns-2 shared-slice-read-is-first

@@ -19,7 +19,9 @@ loop-holds : tie.Need-loop-holds Inv-loop μ-loop
 loop-holds c = passed-start _ _
 
 loop-again : tie.Need-loop-again Inv-loop μ-loop
-loop-again c = passed-eight _ _ (c .before .before .before .loop .inv) (c .before .before .loop-test .taken) (sym (c .before .eight-same .ensures) ∙ not-false (c .before .eight-same .result) (c .if1 .left))
+loop-again c =
+    let at-eight-same = c .before in let at-loop-test = at-eight-same .before in let at-loop = at-loop-test .before in
+    passed-eight _ _ (at-loop .loop .inv) (at-loop-test .loop-test .taken) (sym (at-eight-same .eight-same .ensures) ∙ not-false (at-eight-same .eight-same .result) (c .if1 .left))
 
 pub same-by-eight-spec : {M : Type 1} → statement M
 same-by-eight-spec = tie.close (tie.spec Inv-loop μ-loop loop-holds (search needs) (search needs) (λ c. search needs)

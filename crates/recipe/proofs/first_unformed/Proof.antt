@@ -26,16 +26,24 @@ read-record-requires : tie.Need-read-record-requires Inv-loop μ-loop
 read-record-requires c κs = here _ _ _ (c .before .before .before .pre .1) (c .before .loop .inv .0) (c .loop-test .taken) .readable
 
 returns : tie.Need-returns Inv-loop μ-loop
-returns c = at-found (fault-3 _ ∙ going-hit (here _ _ _ (c .before .before .before .before .before .before .pre .1) (c .before .before .before .before .loop .inv .0) (c .before .before .before .loop-test .taken)) (refused-form _ _ (here _ _ _ (c .before .before .before .before .before .before .pre .1) (c .before .before .before .before .loop .inv .0) (c .before .before .before .loop-test .taken) .readable) (sym (c .enum-told2 .given .1) ∙ c .before .before .read-record .ensures)))
+returns c =
+    let at-read-record = c .before .before in let at-loop-test = at-read-record .before in let at-loop = at-loop-test .before in let at-start = at-loop .before .before in
+    at-found (fault-3 _ ∙ going-hit (here _ _ _ (at-start .pre .1) (at-loop .loop .inv .0) (at-loop-test .loop-test .taken)) (refused-form _ _ (here _ _ _ (at-start .pre .1) (at-loop .loop .inv .0) (at-loop-test .loop-test .taken) .readable) (sym (c .enum-told2 .given .1) ∙ at-read-record .read-record .ensures)))
 
 add-p : tie.Need-add-p Inv-loop μ-loop
-add-p c = omega (arith, on-fits (here _ _ _ (c .before .before .before .before .before .before .before .before .pre .1) (c .before .before .before .before .before .before .loop .inv .0) (c .before .before .before .before .before .loop-test .taken)) (c .record-length .ensures))
+add-p c =
+    let at-loop-test = c .before .before .before .before .before in let at-loop = at-loop-test .before in let at-start = at-loop .before .before in
+    omega (arith, on-fits (here _ _ _ (at-start .pre .1) (at-loop .loop .inv .0) (at-loop-test .loop-test .taken)) (c .record-length .ensures))
 
 loop-less : tie.Need-loop-less Inv-loop μ-loop
-loop-less c = omega (arith, on-fits (here _ _ _ (c .before .before .before .before .before .before .before .before .pre .1) (c .before .before .before .before .before .before .loop .inv .0) (c .before .before .before .before .before .loop-test .taken)) (c .record-length .ensures), on-more _ _ (c .record-length .ensures))
+loop-less c =
+    let at-loop-test = c .before .before .before .before .before in let at-loop = at-loop-test .before in let at-start = at-loop .before .before in
+    omega (arith, on-fits (here _ _ _ (at-start .pre .1) (at-loop .loop .inv .0) (at-loop-test .loop-test .taken)) (c .record-length .ensures), on-more _ _ (c .record-length .ensures))
 
 loop-again : tie.Need-loop-again Inv-loop μ-loop
-loop-again c = (going-on (here _ _ _ (c .before .before .before .before .before .before .before .before .pre .1) (c .before .before .before .before .before .before .loop .inv .0) (c .before .before .before .before .before .loop-test .taken)) (read-form _ _ (sym (c .before .before .enum-told .given .1) ∙ c .before .before .before .before .read-record .ensures)) (c .record-length .ensures), on-fits (here _ _ _ (c .before .before .before .before .before .before .before .before .pre .1) (c .before .before .before .before .before .before .loop .inv .0) (c .before .before .before .before .before .loop-test .taken)) (c .record-length .ensures))
+loop-again c =
+    let at-enum-told = c .before .before in let at-read-record = at-enum-told .before .before in let at-loop-test = at-read-record .before in let at-loop = at-loop-test .before in let at-start = at-loop .before .before in
+    (going-on (here _ _ _ (at-start .pre .1) (at-loop .loop .inv .0) (at-loop-test .loop-test .taken)) (read-form _ _ (sym (at-enum-told .enum-told .given .1) ∙ at-read-record .read-record .ensures)) (c .record-length .ensures), on-fits (here _ _ _ (at-start .pre .1) (at-loop .loop .inv .0) (at-loop-test .loop-test .taken)) (c .record-length .ensures))
 
 returns-2 : tie.Need-returns-2 Inv-loop μ-loop
 returns-2 c = nothing-found (fault-3 _ ∙ going-end (c .before .loop .inv .0) (c .loop-test .left))

@@ -15,19 +15,27 @@ returns c = not-past (record { width = c .before .before .args .w; bytes = c .be
 
 returns-2 : tie.Need-returns-2
 unfolding kind
-returns-2 c = unknown (record { width = c .before .before .before .before .before .args .w; bytes = c .before .before .before .before .before .args .s .now }) (c .before .before .before .before .before .args .p) (sym (c .before .is-known .ensures) ∙ not-true (c .before .is-known .result) (c .if2 .taken))
+returns-2 c =
+    let at-is-known = c .before in let at-start = at-is-known .before .before .before .before in
+    unknown (record { width = at-start .args .w; bytes = at-start .args .s .now }) (at-start .args .p) (sym (at-is-known .is-known .ensures) ∙ not-true (at-is-known .is-known .result) (c .if2 .taken))
 
 returns-3 : tie.Need-returns-3
 unfolding kind next
-returns-3 c = not-whole (record { width = c .before .before .before .before .before .before .before .args .w; bytes = c .before .before .before .before .before .before .before .args .s .now }) (c .before .before .before .before .before .before .before .args .p) (omega (arith, c .before .record-length .ensures))
+returns-3 c =
+    let at-record-length = c .before in let at-start = at-record-length .before .before .before .before .before .before in
+    not-whole (record { width = at-start .args .w; bytes = at-start .args .s .now }) (at-start .args .p) (omega (arith, at-record-length .record-length .ensures))
 
 returns-4 : tie.Need-returns-4
 unfolding kind next
-returns-4 c = whole-model (record { width = c .before .before .before .before .before .before .before .before .args .w; bytes = c .before .before .before .before .before .before .before .before .args .s .now }) (c .before .before .before .before .before .before .before .before .args .p) (c .if4 .taken) (sym (c .before .before .before .before .is-known .ensures) ∙ not-false (c .before .before .before .before .is-known .result) (c .before .before .before .if2 .left)) (omega (arith, c .before .before .record-length .ensures))
+returns-4 c =
+    let at-record-length = c .before .before in let at-if2 = at-record-length .before in let at-is-known = at-if2 .before in let at-start = at-is-known .before .before .before .before in
+    whole-model (record { width = at-start .args .w; bytes = at-start .args .s .now }) (at-start .args .p) (c .if4 .taken) (sym (at-is-known .is-known .ensures) ∙ not-false (at-is-known .is-known .result) (at-if2 .if2 .left)) (omega (arith, at-record-length .record-length .ensures))
 
 returns-5 : tie.Need-returns-5
 unfolding kind next
-returns-5 c = whole-other (record { width = c .before .before .before .before .before .before .before .before .args .w; bytes = c .before .before .before .before .before .before .before .before .args .s .now }) (c .before .before .before .before .before .before .before .before .args .p) (c .if4 .left) (sym (c .before .before .before .before .is-known .ensures) ∙ not-false (c .before .before .before .before .is-known .result) (c .before .before .before .if2 .left)) (omega (arith, c .before .before .record-length .ensures))
+returns-5 c =
+    let at-record-length = c .before .before in let at-if2 = at-record-length .before in let at-is-known = at-if2 .before in let at-start = at-is-known .before .before .before .before in
+    whole-other (record { width = at-start .args .w; bytes = at-start .args .s .now }) (at-start .args .p) (c .if4 .left) (sym (at-is-known .is-known .ensures) ∙ not-false (at-is-known .is-known .result) (at-if2 .if2 .left)) (omega (arith, at-record-length .record-length .ensures))
 
 pub is-readable-spec : {M : Type 1} → statement M
 is-readable-spec = tie.close (tie.spec returns (search needs) (search needs) returns-2 (search needs) (search needs)

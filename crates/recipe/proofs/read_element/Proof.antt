@@ -12,16 +12,24 @@ returns : tie.Need-returns
 returns c = element-nameless _ _ (c .before .before .before .pre .kinded) (is-no-name _ (c .before .field-at .ensures) (c .match .keys2))
 
 returns-2 : tie.Need-returns-2
-returns-2 c = element-classless _ _ (c .before .before .before .before .before .before .before .pre .kinded) (is-name _ (sym (c .before .before .before .enum-told .given .1) ∙ c .before .before .before .before .before .field-at .ensures)) (sym (c .before .is-class .ensures) ∙ not-true (c .before .is-class .result) (c .if1 .taken))
+returns-2 c =
+    let at-is-class = c .before in let at-enum-told = at-is-class .before .before in let at-field-at = at-enum-told .before .before in let at-start = at-field-at .before .before in
+    element-classless _ _ (at-start .pre .kinded) (is-name _ (sym (at-enum-told .enum-told .given .1) ∙ at-field-at .field-at .ensures)) (sym (at-is-class .is-class .ensures) ∙ not-true (at-is-class .is-class .result) (c .if1 .taken))
 
 returns-3 : tie.Need-returns-3
-returns-3 c = element-parent _ _ (c .before .before .before .before .before .before .before .before .before .before .pre .kinded) (is-name _ (sym (c .before .before .before .before .before .before .enum-told .given .1) ∙ c .before .before .before .before .before .before .before .before .field-at .ensures)) (sym (c .before .before .before .before .is-class .ensures) ∙ not-false (c .before .before .before .before .is-class .result) (c .before .before .before .if1 .left)) (is-not-optional _ (sym (c .enum-told2 .given .1) ∙ c .before .before .field-at2 .ensures))
+returns-3 c =
+    let at-field-at2 = c .before .before in let at-if1 = at-field-at2 .before in let at-is-class = at-if1 .before in let at-enum-told = at-is-class .before .before in let at-field-at = at-enum-told .before .before in let at-start = at-field-at .before .before in
+    element-parent _ _ (at-start .pre .kinded) (is-name _ (sym (at-enum-told .enum-told .given .1) ∙ at-field-at .field-at .ensures)) (sym (at-is-class .is-class .ensures) ∙ not-false (at-is-class .is-class .result) (at-if1 .if1 .left)) (is-not-optional _ (sym (c .enum-told2 .given .1) ∙ at-field-at2 .field-at2 .ensures))
 
 returns-4 : tie.Need-returns-4
-returns-4 c = element-reference _ _ (c .before .before .before .before .before .before .before .before .before .before .before .before .pre .kinded) (is-name _ (sym (c .before .before .before .before .before .before .before .before .enum-told .given .1) ∙ c .before .before .before .before .before .before .before .before .before .before .field-at .ensures)) (sym (c .before .before .before .before .before .before .is-class .ensures) ∙ not-false (c .before .before .before .before .before .before .is-class .result) (c .before .before .before .before .before .if1 .left)) (is-optional _ (c .before .before .before .before .field-at2 .ensures) (c .before .before .before .match2 .keys1)) (is-not-optional _ (sym (c .enum-told3 .given .1) ∙ c .before .before .field-at3 .ensures))
+returns-4 c =
+    let at-field-at3 = c .before .before in let at-match2 = at-field-at3 .before in let at-field-at2 = at-match2 .before in let at-if1 = at-field-at2 .before in let at-is-class = at-if1 .before in let at-enum-told = at-is-class .before .before in let at-field-at = at-enum-told .before .before in let at-start = at-field-at .before .before in
+    element-reference _ _ (at-start .pre .kinded) (is-name _ (sym (at-enum-told .enum-told .given .1) ∙ at-field-at .field-at .ensures)) (sym (at-is-class .is-class .ensures) ∙ not-false (at-is-class .is-class .result) (at-if1 .if1 .left)) (is-optional _ (at-field-at2 .field-at2 .ensures) (at-match2 .match2 .keys1)) (is-not-optional _ (sym (c .enum-told3 .given .1) ∙ at-field-at3 .field-at3 .ensures))
 
 returns-5 : tie.Need-returns-5
-returns-5 c = element-read _ _ (c .before .before .before .before .before .before .before .before .before .before .before .pre .kinded) (is-name _ (sym (c .before .before .before .before .before .before .before .enum-told .given .1) ∙ c .before .before .before .before .before .before .before .before .before .field-at .ensures)) (sym (c .before .before .before .before .before .is-class .ensures) ∙ not-false (c .before .before .before .before .before .is-class .result) (c .before .before .before .before .if1 .left)) (is-optional _ (c .before .before .before .field-at2 .ensures) (c .before .before .match2 .keys1)) (is-optional _ (c .before .field-at3 .ensures) (c .match3 .keys1))
+returns-5 c =
+    let at-field-at3 = c .before in let at-match2 = at-field-at3 .before in let at-field-at2 = at-match2 .before in let at-if1 = at-field-at2 .before in let at-is-class = at-if1 .before in let at-enum-told = at-is-class .before .before in let at-field-at = at-enum-told .before .before in let at-start = at-field-at .before .before in
+    element-read _ _ (at-start .pre .kinded) (is-name _ (sym (at-enum-told .enum-told .given .1) ∙ at-field-at .field-at .ensures)) (sym (at-is-class .is-class .ensures) ∙ not-false (at-is-class .is-class .result) (at-if1 .if1 .left)) (is-optional _ (at-field-at2 .field-at2 .ensures) (at-match2 .match2 .keys1)) (is-optional _ (at-field-at3 .field-at3 .ensures) (c .match3 .keys1))
 
 pub read-element-spec : {M : Type 1} → statement M
 read-element-spec = tie.close (tie.spec (λ c κs. search needs) (search needs) returns (search needs) (search needs)

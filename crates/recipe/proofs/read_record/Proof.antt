@@ -27,26 +27,36 @@ read-submodel-requires c κs = at-4 _ _ (c .before .before .before .before .befo
 
 returns-5 : tie.Need-returns-5
 unfolding kind
-returns-5 c = absurd (no-other (record { width = c .before .before .before .before .before .before .before .before .args .w; bytes = c .before .before .before .before .before .before .before .before .args .s .now }) (c .before .before .before .before .before .before .before .before .args .p) (c .before .before .before .before .before .before .before .before .pre) (c .before .before .before .before .before .if1 .left) (c .before .before .before .before .if2 .left) (c .before .before .before .if3 .left) (c .before .before .if4 .left) (sym (c .before .is-mark .ensures) ∙ not-true (c .before .is-mark .result) (c .if5 .taken)))
+returns-5 c =
+    let at-is-mark = c .before in let at-if4 = at-is-mark .before in let at-if3 = at-if4 .before in let at-if2 = at-if3 .before in let at-if1 = at-if2 .before in let at-start = at-if1 .before .before .before in
+    absurd (no-other (record { width = at-start .args .w; bytes = at-start .args .s .now }) (at-start .args .p) (at-start .pre) (at-if1 .if1 .left) (at-if2 .if2 .left) (at-if3 .if3 .left) (at-if4 .if4 .left) (sym (at-is-mark .is-mark .ensures) ∙ not-true (at-is-mark .is-mark .result) (c .if5 .taken)))
 
 read-mark-requires : tie.Need-read-mark-requires
 unfolding kind
-read-mark-requires c κs = mark-at (record { width = c .before .before .before .before .before .before .before .before .args .w; bytes = c .before .before .before .before .before .before .before .before .args .s .now }) (c .before .before .before .before .before .before .before .before .args .p) (c .before .before .before .before .before .before .before .before .pre) refl (sym (c .before .is-mark .ensures) ∙ not-false (c .before .is-mark .result) (c .if5 .left))
+read-mark-requires c κs =
+    let at-is-mark = c .before in let at-start = at-is-mark .before .before .before .before .before .before .before in
+    mark-at (record { width = at-start .args .w; bytes = at-start .args .s .now }) (at-start .args .p) (at-start .pre) refl (sym (at-is-mark .is-mark .ensures) ∙ not-false (at-is-mark .is-mark .result) (c .if5 .left))
 
 returns-6 : tie.Need-returns-6
 returns-6 c = unmarked _ _ (sym (c .enum-told .given .1) ∙ c .before .before .read-mark .ensures)
 
 returns-7 : tie.Need-returns-7
 unfolding kind
-returns-7 c = deletion-read (record { width = c .before .before .before .before .before .before .before .before .before .before .before .before .before .before .args .w; bytes = c .before .before .before .before .before .before .before .before .before .before .before .before .before .before .args .s .now }) (c .before .before .before .before .before .before .before .before .before .before .before .before .before .before .args .p) (sym (c .before .is-deletion .ensures) ∙ c .if6 .taken) (sym (c .before .before .before .m .given .1) ∙ c .before .before .before .before .before .read-mark .ensures)
+returns-7 c =
+    let at-is-deletion = c .before in let at-m = at-is-deletion .before .before in let at-read-mark = at-m .before .before in let at-start = at-read-mark .before .before .before .before .before .before .before .before .before in
+    deletion-read (record { width = at-start .args .w; bytes = at-start .args .s .now }) (at-start .args .p) (sym (at-is-deletion .is-deletion .ensures) ∙ c .if6 .taken) (sym (at-m .m .given .1) ∙ at-read-mark .read-mark .ensures)
 
 returns-8 : tie.Need-returns-8
 unfolding kind
-returns-8 c = replaced-by-read (record { width = c .before .before .before .before .before .before .before .before .before .before .before .before .before .before .before .before .args .w; bytes = c .before .before .before .before .before .before .before .before .before .before .before .before .before .before .before .before .args .s .now }) (c .before .before .before .before .before .before .before .before .before .before .before .before .before .before .before .before .args .p) (sym (c .before .is-replaced-by .ensures) ∙ c .if7 .taken) (sym (c .before .before .before .before .before .m .given .1) ∙ c .before .before .before .before .before .before .before .read-mark .ensures)
+returns-8 c =
+    let at-is-replaced-by = c .before in let at-m = at-is-replaced-by .before .before .before .before in let at-read-mark = at-m .before .before in let at-start = at-read-mark .before .before .before .before .before .before .before .before .before in
+    replaced-by-read (record { width = at-start .args .w; bytes = at-start .args .s .now }) (at-start .args .p) (sym (at-is-replaced-by .is-replaced-by .ensures) ∙ c .if7 .taken) (sym (at-m .m .given .1) ∙ at-read-mark .read-mark .ensures)
 
 returns-9 : tie.Need-returns-9
 unfolding kind
-returns-9 c = replacement-read (record { width = c .before .before .before .before .before .before .before .before .before .before .before .before .before .before .before .before .args .w; bytes = c .before .before .before .before .before .before .before .before .before .before .before .before .before .before .before .before .args .s .now }) (c .before .before .before .before .before .before .before .before .before .before .before .before .before .before .before .before .args .p) (sym (c .before .before .before .before .before .before .before .before .before .is-mark .ensures) ∙ not-false (c .before .before .before .before .before .before .before .before .before .is-mark .result) (c .before .before .before .before .before .before .before .before .if5 .left)) (sym (c .before .before .before .is-deletion .ensures) ∙ c .before .before .if6 .left) (sym (c .before .is-replaced-by .ensures) ∙ c .if7 .left) (sym (c .before .before .before .before .before .m .given .1) ∙ c .before .before .before .before .before .before .before .read-mark .ensures)
+returns-9 c =
+    let at-is-replaced-by = c .before in let at-if6 = at-is-replaced-by .before in let at-is-deletion = at-if6 .before in let at-m = at-is-deletion .before .before in let at-read-mark = at-m .before .before in let at-if5 = at-read-mark .before in let at-is-mark = at-if5 .before in let at-start = at-is-mark .before .before .before .before .before .before .before in
+    replacement-read (record { width = at-start .args .w; bytes = at-start .args .s .now }) (at-start .args .p) (sym (at-is-mark .is-mark .ensures) ∙ not-false (at-is-mark .is-mark .result) (at-if5 .if5 .left)) (sym (at-is-deletion .is-deletion .ensures) ∙ at-if6 .if6 .left) (sym (at-is-replaced-by .is-replaced-by .ensures) ∙ c .if7 .left) (sym (at-m .m .given .1) ∙ at-read-mark .read-mark .ensures)
 
 pub read-record-spec : {M : Type 1} → statement M
 read-record-spec = tie.close (tie.spec shared-slice-read-k read-model-requires (λ c. search needs) read-element-requires

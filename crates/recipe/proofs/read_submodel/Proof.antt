@@ -18,13 +18,19 @@ shared-slice-read-if1 : tie.Need-shared-slice-read-if1
 shared-slice-read-if1 c = omega (arith, name-fits _ _ 0 (sym (c .before .before .n .given .1) ∙ c .before .before .before .before .field-at .ensures))
 
 returns-2 : tie.Need-returns-2
-returns-2 c = submodel-underscore _ _ (c .before .before .before .before .before .before .before .pre .kinded) (sym (c .before .before .before .n .given .1) ∙ c .before .before .before .before .before .field-at .ensures) (c .if1 .taken)
+returns-2 c =
+    let at-n = c .before .before .before in let at-field-at = at-n .before .before in let at-start = at-field-at .before .before in
+    submodel-underscore _ _ (at-start .pre .kinded) (sym (at-n .n .given .1) ∙ at-field-at .field-at .ensures) (c .if1 .taken)
 
 returns-3 : tie.Need-returns-3
-returns-3 c = submodel-modelless _ _ (c .before .before .before .before .before .before .before .before .before .pre .kinded) (sym (c .before .before .before .before .before .n .given .1) ∙ c .before .before .before .before .before .before .before .field-at .ensures) (c .before .before .if1 .left) (is-no-name _ (c .before .field-at2 .ensures) (c .match2 .keys2))
+returns-3 c =
+    let at-field-at2 = c .before in let at-if1 = at-field-at2 .before in let at-n = at-if1 .before .before .before in let at-field-at = at-n .before .before in let at-start = at-field-at .before .before in
+    submodel-modelless _ _ (at-start .pre .kinded) (sym (at-n .n .given .1) ∙ at-field-at .field-at .ensures) (at-if1 .if1 .left) (is-no-name _ (at-field-at2 .field-at2 .ensures) (c .match2 .keys2))
 
 returns-4 : tie.Need-returns-4
-returns-4 c = submodel-read _ _ (c .before .before .before .before .before .before .before .before .before .before .pre .kinded) (sym (c .before .before .before .before .before .before .n .given .1) ∙ c .before .before .before .before .before .before .before .before .field-at .ensures) (c .before .before .before .if1 .left) (is-name _ (sym (c .enum-told .given .1) ∙ c .before .before .field-at2 .ensures))
+returns-4 c =
+    let at-field-at2 = c .before .before in let at-if1 = at-field-at2 .before in let at-n = at-if1 .before .before .before in let at-field-at = at-n .before .before in let at-start = at-field-at .before .before in
+    submodel-read _ _ (at-start .pre .kinded) (sym (at-n .n .given .1) ∙ at-field-at .field-at .ensures) (at-if1 .if1 .left) (is-name _ (sym (c .enum-told .given .1) ∙ at-field-at2 .field-at2 .ensures))
 
 pub read-submodel-spec : {M : Type 1} → statement M
 read-submodel-spec = tie.close (tie.spec (search needs) (search needs) returns add-if1 shared-slice-read-if1 returns-2

@@ -11,13 +11,19 @@ returns : tie.Need-returns
 returns c = target-far _ _ _ (c .before .before .before .pre .begins) (c .if1 .taken)
 
 returns-2 : tie.Need-returns-2
-returns-2 c = target-nameless _ _ _ (c .before .before .before .before .before .pre .begins) (c .before .before .if1 .left) (is-no-name _ (c .before .field-at .ensures) (c .match .keys2))
+returns-2 c =
+    let at-field-at = c .before in let at-if1 = at-field-at .before in let at-start = at-if1 .before .before .before in
+    target-nameless _ _ _ (at-start .pre .begins) (at-if1 .if1 .left) (is-no-name _ (at-field-at .field-at .ensures) (c .match .keys2))
 
 returns-3 : tie.Need-returns-3
-returns-3 c = target-element _ _ _ (c .before .before .before .before .before .before .before .pre .begins) (c .before .before .before .before .if1 .left) (is-name _ (sym (c .before .enum-told .given .1) ∙ c .before .before .before .field-at .ensures)) (c .if2 .taken)
+returns-3 c =
+    let at-enum-told = c .before in let at-field-at = at-enum-told .before .before in let at-if1 = at-field-at .before in let at-start = at-if1 .before .before .before in
+    target-element _ _ _ (at-start .pre .begins) (at-if1 .if1 .left) (is-name _ (sym (at-enum-told .enum-told .given .1) ∙ at-field-at .field-at .ensures)) (c .if2 .taken)
 
 returns-4 : tie.Need-returns-4
-returns-4 c = target-port _ _ _ (c .before .before .before .before .before .before .before .pre .begins) (c .before .before .before .before .if1 .left) (is-name _ (sym (c .before .enum-told .given .1) ∙ c .before .before .before .field-at .ensures)) (c .if2 .left)
+returns-4 c =
+    let at-enum-told = c .before in let at-field-at = at-enum-told .before .before in let at-if1 = at-field-at .before in let at-start = at-if1 .before .before .before in
+    target-port _ _ _ (at-start .pre .begins) (at-if1 .if1 .left) (is-name _ (sym (at-enum-told .enum-told .given .1) ∙ at-field-at .field-at .ensures)) (c .if2 .left)
 
 pub read-target-spec : {M : Type 1} → statement M
 read-target-spec = tie.close (tie.spec (search needs) (search needs) (search needs) (search needs) returns

@@ -11,7 +11,9 @@ returns : tie.Need-returns
 returns c = let e = eqb-true (c .before .before .args .k) 5 (sym (c .before .is-deletion .ensures) ∙ c .if1 .taken) in rw e
 
 returns-2 : tie.Need-returns-2
-returns-2 c = offset-behind (c .before .before .args .w) (c .before .before .args .k) (c .before .before .pre) (sym (c .before .is-deletion .ensures) ∙ c .if1 .left)
+returns-2 c =
+    let at-is-deletion = c .before in let at-start = at-is-deletion .before in
+    offset-behind (at-start .args .w) (at-start .args .k) (at-start .pre) (sym (at-is-deletion .is-deletion .ensures) ∙ c .if1 .left)
 
 pub submodel-offset-spec : {M : Type 1} → statement M
 submodel-offset-spec = tie.close (tie.spec (search needs) returns returns-2)

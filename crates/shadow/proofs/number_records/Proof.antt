@@ -24,55 +24,87 @@ record-length-requires : tie.Need-record-length-requires Inv-loop μ-loop
 record-length-requires c κs = omega (arith, c .before .before .before .before .before .pre .narrow)
 
 set-cell-requires : tie.Need-set-cell-requires Inv-loop μ-loop
-set-cell-requires c κs = let g = c .before .before .before .before .before .loop .inv in let l = c .before .before .before .before .loop-test .taken in let r = number-room (c .before .before .before .before .before .before .before .before .pre) g l in (omega arith, omega arith)
+set-cell-requires c κs =
+    let at-loop-test = c .before .before .before .before in let at-loop = at-loop-test .before in let at-start = at-loop .before .before .before in
+    let g = at-loop .loop .inv in let l = at-loop-test .loop-test .taken in let r = number-room (at-start .pre) g l in (omega arith, omega arith)
 
 set-cell-requires-2 : tie.Need-set-cell-requires-2 Inv-loop μ-loop
-set-cell-requires-2 c κs = let g = c .before .before .before .before .before .before .before .before .before .loop .inv in let l = c .before .before .before .before .before .before .before .before .loop-test .taken in let r = number-room (c .before .before .before .before .before .before .before .before .before .before .before .before .pre) g l in (omega (arith, c .before .before .before .set-cell .kept .0), omega arith)
+set-cell-requires-2 c κs =
+    let at-set-cell = c .before .before .before in let at-loop-test = at-set-cell .before .before .before .before .before in let at-loop = at-loop-test .before in let at-start = at-loop .before .before .before in
+    let g = at-loop .loop .inv in let l = at-loop-test .loop-test .taken in let r = number-room (at-start .pre) g l in (omega (arith, at-set-cell .set-cell .kept .0), omega arith)
 
 add-p : tie.Need-add-p Inv-loop μ-loop
-add-p c = omega (arith, walk-fits (c .before .before .before .before .before .before .before .before .before .before .before .before .before .before .before .pre) (c .before .before .before .before .before .before .before .before .before .before .before .before .loop .inv .walk) (c .before .before .before .before .before .before .before .before .before .before .before .loop-test .taken) (c .before .before .before .before .before .before .before .before .before .record-length .ensures))
+add-p c =
+    let at-record-length = c .before .before .before .before .before .before .before .before .before in let at-loop-test = at-record-length .before .before in let at-loop = at-loop-test .before in let at-start = at-loop .before .before .before in
+    omega (arith, walk-fits (at-start .pre) (at-loop .loop .inv .walk) (at-loop-test .loop-test .taken) (at-record-length .record-length .ensures))
 
 loop-less : tie.Need-loop-less Inv-loop μ-loop
-loop-less c = omega (arith, walk-fits (c .before .before .before .before .before .before .before .before .before .before .before .before .before .before .before .pre) (c .before .before .before .before .before .before .before .before .before .before .before .before .loop .inv .walk) (c .before .before .before .before .before .before .before .before .before .before .before .loop-test .taken) (c .before .before .before .before .before .before .before .before .before .record-length .ensures))
+loop-less c =
+    let at-record-length = c .before .before .before .before .before .before .before .before .before in let at-loop-test = at-record-length .before .before in let at-loop = at-loop-test .before in let at-start = at-loop .before .before .before in
+    omega (arith, walk-fits (at-start .pre) (at-loop .loop .inv .walk) (at-loop-test .loop-test .taken) (at-record-length .record-length .ensures))
 
 loop-again : tie.Need-loop-again Inv-loop μ-loop
-loop-again c = rw (c .before .before .set-cell2 .ensures, c .before .before .before .before .before .before .set-cell .ensures) (number-model (c .before .before .before .before .before .before .before .before .before .before .before .before .before .before .before .pre) (c .before .before .before .before .before .before .before .before .before .before .before .before .loop .inv) (c .before .before .before .before .before .before .before .before .before .before .before .loop-test .taken) (c .before .before .before .before .before .before .before .before .before .record-length .ensures) (c .before .before .before .before .before .before .before .before .if1 .taken))
+loop-again c =
+    let at-set-cell2 = c .before .before in let at-set-cell = at-set-cell2 .before .before .before .before in let at-if1 = at-set-cell .before .before in let at-record-length = at-if1 .before in let at-loop-test = at-record-length .before .before in let at-loop = at-loop-test .before in let at-start = at-loop .before .before .before in
+    rw (at-set-cell2 .set-cell2 .ensures, at-set-cell .set-cell .ensures) (number-model (at-start .pre) (at-loop .loop .inv) (at-loop-test .loop-test .taken) (at-record-length .record-length .ensures) (at-if1 .if1 .taken))
 
 cell-requires : tie.Need-cell-requires Inv-loop μ-loop
-cell-requires c κs = let g = c .before .before .before .before .before .before .loop .inv in let l = c .before .before .before .before .before .loop-test .taken in let r = number-room (c .before .before .before .before .before .before .before .before .before .pre) g l in omega (arith, g .latest .below)
+cell-requires c κs =
+    let at-loop-test = c .before .before .before .before .before in let at-loop = at-loop-test .before in let at-start = at-loop .before .before .before in
+    let g = at-loop .loop .inv in let l = at-loop-test .loop-test .taken in let r = number-room (at-start .pre) g l in omega (arith, g .latest .below)
 
 set-cell-requires-3 : tie.Need-set-cell-requires-3 Inv-loop μ-loop
-set-cell-requires-3 c κs = let g = c .before .before .before .before .before .before .before .before .loop .inv in let l = c .before .before .before .before .before .before .before .loop-test .taken in let r = number-room (c .before .before .before .before .before .before .before .before .before .before .before .pre) g l in (omega arith, omega (arith, g .latest .below))
+set-cell-requires-3 c κs =
+    let at-loop-test = c .before .before .before .before .before .before .before in let at-loop = at-loop-test .before in let at-start = at-loop .before .before .before in
+    let g = at-loop .loop .inv in let l = at-loop-test .loop-test .taken in let r = number-room (at-start .pre) g l in (omega arith, omega (arith, g .latest .below))
 
 set-cell-requires-4 : tie.Need-set-cell-requires-4 Inv-loop μ-loop
-set-cell-requires-4 c κs = let g = c .before .before .before .before .before .before .before .before .before .before .before .before .loop .inv in let l = c .before .before .before .before .before .before .before .before .before .before .before .loop-test .taken in let r = number-room (c .before .before .before .before .before .before .before .before .before .before .before .before .before .before .before .pre) g l in (omega (arith, c .before .before .before .set-cell3 .kept .0), c .before .before .before .before .before .cell .ensures .1)
+set-cell-requires-4 c κs =
+    let at-set-cell3 = c .before .before .before in let at-cell = at-set-cell3 .before .before in let at-loop-test = at-cell .before .before .before .before .before .before in let at-loop = at-loop-test .before in let at-start = at-loop .before .before .before in
+    let g = at-loop .loop .inv in let l = at-loop-test .loop-test .taken in let r = number-room (at-start .pre) g l in (omega (arith, at-set-cell3 .set-cell3 .kept .0), at-cell .cell .ensures .1)
 
 add-set-cell : tie.Need-add-set-cell Inv-loop μ-loop
 add-set-cell c = omega (arith, c .before .before .before .before .before .before .before .before .before .cell .ensures .1)
 
 set-cell-requires-5 : tie.Need-set-cell-requires-5 Inv-loop μ-loop
-set-cell-requires-5 c κs = let g = c .before .before .before .before .before .before .before .before .before .before .before .before .before .before .before .before .loop .inv in let l = c .before .before .before .before .before .before .before .before .before .before .before .before .before .before .before .loop-test .taken in let r = number-room (c .before .before .before .before .before .before .before .before .before .before .before .before .before .before .before .before .before .before .before .pre) g l in (omega (arith, g .latest .below, c .before .before .before .before .before .before .before .set-cell3 .kept .0, c .before .before .before .set-cell4 .kept .0), omega (arith, c .before .before .before .before .before .before .before .before .before .cell .ensures .0, own-few (c .before .before .before .before .before .before .before .before .before .before .before .before .before .before .before .before .before .before .before .pre) g l (c .before .before .before .before .before .before .before .before .before .before .before .before .before .record-length .ensures) (c .before .before .before .before .before .before .before .before .before .before .before .if2 .taken)))
+set-cell-requires-5 c κs =
+    let at-set-cell4 = c .before .before .before in let at-set-cell3 = at-set-cell4 .before .before .before .before in let at-cell = at-set-cell3 .before .before in let at-if2 = at-cell .before .before in let at-record-length = at-if2 .before .before in let at-loop-test = at-record-length .before .before in let at-loop = at-loop-test .before in let at-start = at-loop .before .before .before in
+    let g = at-loop .loop .inv in let l = at-loop-test .loop-test .taken in let r = number-room (at-start .pre) g l in (omega (arith, g .latest .below, at-set-cell3 .set-cell3 .kept .0, at-set-cell4 .set-cell4 .kept .0), omega (arith, at-cell .cell .ensures .0, own-few (at-start .pre) g l (at-record-length .record-length .ensures) (at-if2 .if2 .taken)))
 
 add-p-2 : tie.Need-add-p-2 Inv-loop μ-loop
-add-p-2 c = omega (arith, walk-fits (c .before .before .before .before .before .before .before .before .before .before .before .before .before .before .before .before .before .before .before .before .before .before .pre) (c .before .before .before .before .before .before .before .before .before .before .before .before .before .before .before .before .before .before .before .loop .inv .walk) (c .before .before .before .before .before .before .before .before .before .before .before .before .before .before .before .before .before .before .loop-test .taken) (c .before .before .before .before .before .before .before .before .before .before .before .before .before .before .before .before .record-length .ensures))
+add-p-2 c =
+    let at-record-length = c .before .before .before .before .before .before .before .before .before .before .before .before .before .before .before .before in let at-loop-test = at-record-length .before .before in let at-loop = at-loop-test .before in let at-start = at-loop .before .before .before in
+    omega (arith, walk-fits (at-start .pre) (at-loop .loop .inv .walk) (at-loop-test .loop-test .taken) (at-record-length .record-length .ensures))
 
 loop-less-2 : tie.Need-loop-less-2 Inv-loop μ-loop
-loop-less-2 c = omega (arith, walk-fits (c .before .before .before .before .before .before .before .before .before .before .before .before .before .before .before .before .before .before .before .before .before .before .pre) (c .before .before .before .before .before .before .before .before .before .before .before .before .before .before .before .before .before .before .before .loop .inv .walk) (c .before .before .before .before .before .before .before .before .before .before .before .before .before .before .before .before .before .before .loop-test .taken) (c .before .before .before .before .before .before .before .before .before .before .before .before .before .before .before .before .record-length .ensures))
+loop-less-2 c =
+    let at-record-length = c .before .before .before .before .before .before .before .before .before .before .before .before .before .before .before .before in let at-loop-test = at-record-length .before .before in let at-loop = at-loop-test .before in let at-start = at-loop .before .before .before in
+    omega (arith, walk-fits (at-start .pre) (at-loop .loop .inv .walk) (at-loop-test .loop-test .taken) (at-record-length .record-length .ensures))
 
 loop-again-2 : tie.Need-loop-again-2 Inv-loop μ-loop
-loop-again-2 c = rw (c .before .before .set-cell5 .ensures, c .before .before .before .before .before .before .set-cell4 .ensures, c .before .before .before .before .before .before .before .before .before .before .set-cell3 .ensures) (number-element (c .before .before .before .before .before .before .before .before .before .before .before .before .before .before .before .before .before .before .before .before .before .before .pre) (c .before .before .before .before .before .before .before .before .before .before .before .before .before .before .before .before .before .before .before .loop .inv) (c .before .before .before .before .before .before .before .before .before .before .before .before .before .before .before .before .before .before .loop-test .taken) (c .before .before .before .before .before .before .before .before .before .before .before .before .before .before .before .before .record-length .ensures) (c .before .before .before .before .before .before .before .before .before .before .before .before .before .before .if2 .taken) (c .before .before .before .before .before .before .before .before .before .before .before .before .cell .ensures .0))
+loop-again-2 c =
+    let at-set-cell5 = c .before .before in let at-set-cell4 = at-set-cell5 .before .before .before .before in let at-set-cell3 = at-set-cell4 .before .before .before .before in let at-cell = at-set-cell3 .before .before in let at-if2 = at-cell .before .before in let at-record-length = at-if2 .before .before in let at-loop-test = at-record-length .before .before in let at-loop = at-loop-test .before in let at-start = at-loop .before .before .before in
+    rw (at-set-cell5 .set-cell5 .ensures, at-set-cell4 .set-cell4 .ensures, at-set-cell3 .set-cell3 .ensures) (number-element (at-start .pre) (at-loop .loop .inv) (at-loop-test .loop-test .taken) (at-record-length .record-length .ensures) (at-if2 .if2 .taken) (at-cell .cell .ensures .0))
 
 set-cell-requires-6 : tie.Need-set-cell-requires-6 Inv-loop μ-loop
-set-cell-requires-6 c κs = let g = c .before .before .before .before .before .before .loop .inv in let l = c .before .before .before .before .before .loop-test .taken in let r = number-room (c .before .before .before .before .before .before .before .before .before .pre) g l in (omega arith, omega (arith, g .latest .below))
+set-cell-requires-6 c κs =
+    let at-loop-test = c .before .before .before .before .before in let at-loop = at-loop-test .before in let at-start = at-loop .before .before .before in
+    let g = at-loop .loop .inv in let l = at-loop-test .loop-test .taken in let r = number-room (at-start .pre) g l in (omega arith, omega (arith, g .latest .below))
 
 add-p-3 : tie.Need-add-p-3 Inv-loop μ-loop
-add-p-3 c = omega (arith, walk-fits (c .before .before .before .before .before .before .before .before .before .before .before .before .pre) (c .before .before .before .before .before .before .before .before .before .loop .inv .walk) (c .before .before .before .before .before .before .before .before .loop-test .taken) (c .before .before .before .before .before .before .record-length .ensures))
+add-p-3 c =
+    let at-record-length = c .before .before .before .before .before .before in let at-loop-test = at-record-length .before .before in let at-loop = at-loop-test .before in let at-start = at-loop .before .before .before in
+    omega (arith, walk-fits (at-start .pre) (at-loop .loop .inv .walk) (at-loop-test .loop-test .taken) (at-record-length .record-length .ensures))
 
 loop-less-3 : tie.Need-loop-less-3 Inv-loop μ-loop
-loop-less-3 c = omega (arith, walk-fits (c .before .before .before .before .before .before .before .before .before .before .before .before .pre) (c .before .before .before .before .before .before .before .before .before .loop .inv .walk) (c .before .before .before .before .before .before .before .before .loop-test .taken) (c .before .before .before .before .before .before .record-length .ensures))
+loop-less-3 c =
+    let at-record-length = c .before .before .before .before .before .before in let at-loop-test = at-record-length .before .before in let at-loop = at-loop-test .before in let at-start = at-loop .before .before .before in
+    omega (arith, walk-fits (at-start .pre) (at-loop .loop .inv .walk) (at-loop-test .loop-test .taken) (at-record-length .record-length .ensures))
 
 loop-again-3 : tie.Need-loop-again-3 Inv-loop μ-loop
-loop-again-3 c = rw (c .before .before .set-cell6 .ensures) (number-other (c .before .before .before .before .before .before .before .before .before .before .before .before .pre) (c .before .before .before .before .before .before .before .before .before .loop .inv) (c .before .before .before .before .before .before .before .before .loop-test .taken) (c .before .before .before .before .before .before .record-length .ensures) (c .before .before .before .before .before .if1 .left) (c .before .before .before .before .if2 .left))
+loop-again-3 c =
+    let at-set-cell6 = c .before .before in let at-if2 = at-set-cell6 .before .before in let at-if1 = at-if2 .before in let at-record-length = at-if1 .before in let at-loop-test = at-record-length .before .before in let at-loop = at-loop-test .before in let at-start = at-loop .before .before .before in
+    rw (at-set-cell6 .set-cell6 .ensures) (number-other (at-start .pre) (at-loop .loop .inv) (at-loop-test .loop-test .taken) (at-record-length .record-length .ensures) (at-if1 .if1 .left) (at-if2 .if2 .left))
 
 same-length : tie.Need-same-length Inv-loop μ-loop
 same-length c = c .before .loop .inv .walk .kept .long

@@ -53,7 +53,7 @@ resolve-port-returns : (t : ℕ) → resolve-port-lts.Need-returns (port-claims 
 resolve-port-returns t c = kept-answers (c .before .before .before .before .before .pre .1) (c .before .cell .ensures .0) (c .if1 .taken)
 
 resolve-port-resolve-reference-requires : (t : ℕ) → resolve-port-lts.Need-resolve-reference-requires (port-claims t) (resolve-port-at t) resolve-port.Post
-resolve-port-resolve-reference-requires t c κs = (omega (arith, c .before .before .before .before .before .before .pre .0), c .before .before .before .before .before .before .pre .1)
+resolve-port-resolve-reference-requires t c κs = let at-start = c .before .before .before .before .before .before in (omega (arith, at-start .pre .0), at-start .pre .1)
 
 resolve-port-same-length-2 : (t : ℕ) → resolve-port-lts.Need-same-length-2 (port-claims t) (resolve-port-at t) resolve-port.Post
 resolve-port-same-length-2 t c = c .before .before .resolve-reference .ensures .kept .long
@@ -74,27 +74,34 @@ resolve-reference-offset-of-requires : (t : ℕ) → resolve-reference-lts.Need-
 resolve-reference-offset-of-requires t c κs = offset-asks (c .before .before .before .before .before .before .pre .1)
 
 resolve-reference-shared-slice-read-if2 : (t : ℕ) → resolve-reference-lts.Need-shared-slice-read-if2 (reference-claims t) (resolve-reference-at t) resolve-reference.Post
-resolve-reference-shared-slice-read-if2 t c = named-asks (c .before .before .before .before .before .before .before .before .pre .1) (c .before .before .before .before .cell .ensures .0) (c .before .before .before .if1 .left) .1
+resolve-reference-shared-slice-read-if2 t c =
+    let at-if1 = c .before .before .before in let at-cell = at-if1 .before in let at-start = at-cell .before .before .before .before in
+    named-asks (at-start .pre .1) (at-cell .cell .ensures .0) (at-if1 .if1 .left) .1
 
 resolve-reference-cell-requires-2 : (t : ℕ) → resolve-reference-lts.Need-cell-requires-2 (reference-claims t) (resolve-reference-at t) resolve-reference.Post
-resolve-reference-cell-requires-2 t c κs = omega (arith, named-asks (c .before .before .before .before .before .before .before .before .before .before .pre .1) (c .before .before .before .before .before .before .cell .ensures .0) (c .before .before .before .before .before .if1 .left) .0)
+resolve-reference-cell-requires-2 t c κs =
+    let at-if1 = c .before .before .before .before .before in let at-cell = at-if1 .before in let at-start = at-cell .before .before .before .before in
+    omega (arith, named-asks (at-start .pre .1) (at-cell .cell .ensures .0) (at-if1 .if1 .left) .0)
 
 resolve-reference-add-numbers-requires : (t : ℕ) → resolve-reference-lts.Need-add-numbers-requires (reference-claims t) (resolve-reference-at t) resolve-reference.Post
 resolve-reference-add-numbers-requires t c κs = (omega (arith, c .before .before .before .before .before .offset-of .ensures .small), omega (arith, c .before .cell2 .ensures .1))
 
 resolve-reference-keep-target-requires : (t : ℕ) → resolve-reference-lts.Need-keep-target-requires (reference-claims t) (resolve-reference-at t) resolve-reference.Post
-resolve-reference-keep-target-requires t c κs = (omega (arith, row-of (c .before .before .before .before .before .before .before .before .before .before .before .before .before .pre .1)), (c .before .before .before .before .before .before .before .before .before .cell .ensures .1, c .add-numbers .ensures .0))
+resolve-reference-keep-target-requires t c κs =
+    let at-cell = c .before .before .before .before .before .before .before .before .before in let at-start = at-cell .before .before .before .before in
+    (omega (arith, row-of (at-start .pre .1)), (at-cell .cell .ensures .1, c .add-numbers .ensures .0))
 
 resolve-reference-returns-2 : (t : ℕ) → resolve-reference-lts.Need-returns-2 (reference-claims t) (resolve-reference-at t) resolve-reference.Post
 resolve-reference-returns-2 t c =
-    let R = c .before .before .before .before .before .before .before .before .before .before .before .before .before .before .before .before .pre .1 in
-    let cell = c .before .before .before .before .before .before .before .before .before .before .before .before .cell .ensures .0 in
-    let if1-left = c .before .before .before .before .before .before .before .before .before .before .before .if1 .left in
-    let offset-of = c .before .before .before .before .before .before .before .before .before .offset-of .ensures in
-    let if2-taken = c .before .before .before .before .before .before .before .if2 .taken in
-    let cell2 = c .before .before .before .before .before .cell2 .ensures .0 in
-    let add-numbers-1 = c .before .before .before .add-numbers .ensures .1 in
-    let keep-target = c .before .before .keep-target .ensures in
+    let at-keep-target = c .before .before in let at-add-numbers = at-keep-target .before in let at-cell2 = at-add-numbers .before .before in let at-if2 = at-cell2 .before .before in let at-offset-of = at-if2 .before .before in let at-if1 = at-offset-of .before .before in let at-cell = at-if1 .before in let at-start = at-cell .before .before .before .before in
+    let R = at-start .pre .1 in
+    let cell = at-cell .cell .ensures .0 in
+    let if1-left = at-if1 .if1 .left in
+    let offset-of = at-offset-of .offset-of .ensures in
+    let if2-taken = at-if2 .if2 .taken in
+    let cell2 = at-cell2 .cell2 .ensures .0 in
+    let add-numbers-1 = at-add-numbers .add-numbers .ensures .1 in
+    let keep-target = at-keep-target .keep-target .ensures in
     element-answers R cell if1-left offset-of if2-taken cell2 add-numbers-1 keep-target
 
 resolve-reference-same-length-2 : (t : ℕ) → resolve-reference-lts.Need-same-length-2 (reference-claims t) (resolve-reference-at t) resolve-reference.Post
@@ -102,25 +109,29 @@ resolve-reference-same-length-2 t c = resolve-reference-returns-2 t c .kept .lon
 
 resolve-reference-resolve-port-requires : (t : ℕ) → resolve-reference-lts.Need-resolve-port-requires (reference-claims t) (resolve-reference-at t) resolve-reference.Post
 resolve-reference-resolve-port-requires t c κs =
-    let R = c .before .before .before .before .before .before .before .before .before .before .pre .1 in
-    let cell = c .before .before .before .before .before .before .cell .ensures .0 in
-    let if1-left = c .before .before .before .before .before .if1 .left in
-    let if2-left = c .before .if2 .left in
-    (omega (arith, c .before .before .before .before .before .before .before .before .before .before .pre .0, port-falls R cell if1-left if2-left), port-requires R cell if1-left if2-left)
+    let at-if2 = c .before in let at-if1 = at-if2 .before .before .before .before in let at-cell = at-if1 .before in let at-start = at-cell .before .before .before .before in
+    let R = at-start .pre .1 in
+    let cell = at-cell .cell .ensures .0 in
+    let if1-left = at-if1 .if1 .left in
+    let if2-left = at-if2 .if2 .left in
+    (omega (arith, at-start .pre .0, port-falls R cell if1-left if2-left), port-requires R cell if1-left if2-left)
 
 resolve-reference-same-length-3 : (t : ℕ) → resolve-reference-lts.Need-same-length-3 (reference-claims t) (resolve-reference-at t) resolve-reference.Post
 resolve-reference-same-length-3 t c = c .before .before .before .resolve-port .ensures .kept .long
 
 resolve-reference-returns-3 : (t : ℕ) → resolve-reference-lts.Need-returns-3 (reference-claims t) (resolve-reference-at t) resolve-reference.Post
 resolve-reference-returns-3 t c =
-    let R = c .before .before .before .before .before .before .before .before .before .before .before .before .before .before .pre .1 in
-    let cell = c .before .before .before .before .before .before .before .before .before .before .cell .ensures .0 in
-    let if1-left = c .before .before .before .before .before .before .before .before .before .if1 .left in
-    let if2-left = c .before .before .before .before .before .if2 .left in
-    port-none R cell if1-left if2-left (c .before .before .before .resolve-port .ensures) (c .if3 .taken)
+    let at-resolve-port = c .before .before .before in let at-if2 = at-resolve-port .before .before in let at-if1 = at-if2 .before .before .before .before in let at-cell = at-if1 .before in let at-start = at-cell .before .before .before .before in
+    let R = at-start .pre .1 in
+    let cell = at-cell .cell .ensures .0 in
+    let if1-left = at-if1 .if1 .left in
+    let if2-left = at-if2 .if2 .left in
+    port-none R cell if1-left if2-left (at-resolve-port .resolve-port .ensures) (c .if3 .taken)
 
 resolve-reference-cell-requires-3 : (t : ℕ) → resolve-reference-lts.Need-cell-requires-3 (reference-claims t) (resolve-reference-at t) resolve-reference.Post
-resolve-reference-cell-requires-3 t c κs = omega (arith, named-asks (c .before .before .before .before .before .before .before .before .before .before .before .before .before .before .before .pre .1) (c .before .before .before .before .before .before .before .before .before .before .before .cell .ensures .0) (c .before .before .before .before .before .before .before .before .before .before .if1 .left) .0, c .before .before .before .before .resolve-port .ensures .kept .long)
+resolve-reference-cell-requires-3 t c κs =
+    let at-resolve-port = c .before .before .before .before in let at-if1 = at-resolve-port .before .before .before .before .before .before in let at-cell = at-if1 .before in let at-start = at-cell .before .before .before .before in
+    omega (arith, named-asks (at-start .pre .1) (at-cell .cell .ensures .0) (at-if1 .if1 .left) .0, at-resolve-port .resolve-port .ensures .kept .long)
 
 resolve-reference-cell-requires-4 : (t : ℕ) → resolve-reference-lts.Need-cell-requires-4 (reference-claims t) (resolve-reference-at t) resolve-reference.Post
 resolve-reference-cell-requires-4 t c κs = omega (arith, resolve-reference-cell-requires-3 t (c .before .before) κs)
@@ -129,21 +140,24 @@ resolve-reference-add-numbers-requires-2 : (t : ℕ) → resolve-reference-lts.N
 resolve-reference-add-numbers-requires-2 t c κs = (omega (arith, c .before .before .before .before .before .before .before .before .before .before .before .before .offset-of .ensures .small), omega (arith, c .before .cell4 .ensures .1))
 
 resolve-reference-keep-target-requires-2 : (t : ℕ) → resolve-reference-lts.Need-keep-target-requires-2 (reference-claims t) (resolve-reference-at t) resolve-reference.Post
-resolve-reference-keep-target-requires-2 t c κs = (omega (arith, row-of (c .before .before .before .before .before .before .before .before .before .before .before .before .before .before .before .before .before .before .before .before .pre .1), c .before .before .before .before .before .before .before .before .before .resolve-port .ensures .kept .long), (c .before .before .before .before .cell3 .ensures .1, c .add-numbers2 .ensures .0))
+resolve-reference-keep-target-requires-2 t c κs =
+    let at-cell3 = c .before .before .before .before in let at-resolve-port = at-cell3 .before .before .before .before .before in let at-start = at-resolve-port .before .before .before .before .before .before .before .before .before .before .before in
+    (omega (arith, row-of (at-start .pre .1), at-resolve-port .resolve-port .ensures .kept .long), (at-cell3 .cell3 .ensures .1, c .add-numbers2 .ensures .0))
 
 resolve-reference-returns-4 : (t : ℕ) → resolve-reference-lts.Need-returns-4 (reference-claims t) (resolve-reference-at t) resolve-reference.Post
 resolve-reference-returns-4 t c =
-    let R = c .before .before .before .before .before .before .before .before .before .before .before .before .before .before .before .before .before .before .before .before .before .before .before .pre .1 in
-    let cell = c .before .before .before .before .before .before .before .before .before .before .before .before .before .before .before .before .before .before .before .cell .ensures .0 in
-    let if1-left = c .before .before .before .before .before .before .before .before .before .before .before .before .before .before .before .before .before .before .if1 .left in
-    let if2-left = c .before .before .before .before .before .before .before .before .before .before .before .before .before .before .if2 .left in
-    let resolve-port = c .before .before .before .before .before .before .before .before .before .before .before .before .resolve-port .ensures in
-    let if3-left = c .before .before .before .before .before .before .before .before .before .if3 .left in
-    let offset-of = c .before .before .before .before .before .before .before .before .before .before .before .before .before .before .before .before .offset-of .ensures in
-    let cell3 = c .before .before .before .before .before .before .before .cell3 .ensures .0 in
-    let cell4 = c .before .before .before .before .before .cell4 .ensures .0 in
-    let add-numbers2-1 = c .before .before .before .add-numbers2 .ensures .1 in
-    let keep-target2 = c .before .before .keep-target2 .ensures in
+    let at-keep-target2 = c .before .before in let at-add-numbers2 = at-keep-target2 .before in let at-cell4 = at-add-numbers2 .before .before in let at-cell3 = at-cell4 .before .before in let at-if3 = at-cell3 .before .before in let at-resolve-port = at-if3 .before .before .before in let at-if2 = at-resolve-port .before .before in let at-offset-of = at-if2 .before .before in let at-if1 = at-offset-of .before .before in let at-cell = at-if1 .before in let at-start = at-cell .before .before .before .before in
+    let R = at-start .pre .1 in
+    let cell = at-cell .cell .ensures .0 in
+    let if1-left = at-if1 .if1 .left in
+    let if2-left = at-if2 .if2 .left in
+    let resolve-port = at-resolve-port .resolve-port .ensures in
+    let if3-left = at-if3 .if3 .left in
+    let offset-of = at-offset-of .offset-of .ensures in
+    let cell3 = at-cell3 .cell3 .ensures .0 in
+    let cell4 = at-cell4 .cell4 .ensures .0 in
+    let add-numbers2-1 = at-add-numbers2 .add-numbers2 .ensures .1 in
+    let keep-target2 = at-keep-target2 .keep-target2 .ensures in
     port-answers R cell if1-left if2-left resolve-port if3-left offset-of cell3 cell4 add-numbers2-1 keep-target2
 
 resolve-reference-same-length-4 : (t : ℕ) → resolve-reference-lts.Need-same-length-4 (reference-claims t) (resolve-reference-at t) resolve-reference.Post

@@ -57,16 +57,24 @@ unfolding mostInstances mostElements
 walk-add-x t c = omega (arith, own-count (c .before .before .before .before .before .before .before .pre .1) (c .before .before .cell .ensures .0) (c .cell2 .ensures .0) .1)
 
 walk-next-submodel-requires : (t : ℕ) → walk-lts.Need-next-submodel-requires (claims t) (walk-at t) walk.Post walk-Inv-loop walk-μ-loop
-walk-next-submodel-requires t c κs = ((c .before .before .before .before .before .before .before .before .pre .1) .linked .numbered, count-first (c .before .before .before .before .before .before .before .before .pre .1) (c .before .before .before .cell .ensures .0) .1)
+walk-next-submodel-requires t c κs =
+    let at-cell = c .before .before .before in let at-start = at-cell .before .before .before .before .before in
+    ((at-start .pre .1) .linked .numbered, count-first (at-start .pre .1) (at-cell .cell .ensures .0) .1)
 
 walk-loop-holds : (t : ℕ) → walk-lts.Need-loop-holds (claims t) (walk-at t) walk.Post walk-Inv-loop walk-μ-loop
-walk-loop-holds t c = loop-start (c .before .before .before .before .before .before .before .before .before .pre .1) (c .before .before .before .before .cell .ensures .0) (c .before .before .cell2 .ensures .0) (c .next-submodel .ensures)
+walk-loop-holds t c =
+    let at-cell2 = c .before .before in let at-cell = at-cell2 .before .before in let at-start = at-cell .before .before .before .before .before in
+    loop-start (at-start .pre .1) (at-cell .cell .ensures .0) (at-cell2 .cell2 .ensures .0) (c .next-submodel .ensures)
 
 walk-cell-requires-3 : (t : ℕ) → walk-lts.Need-cell-requires-3 (claims t) (walk-at t) walk.Post walk-Inv-loop walk-μ-loop
-walk-cell-requires-3 t c κs = omega (arith, sub-room (c .before .before .before .before .before .before .before .before .before .before .before .before .pre .1) (c .before .before .loop .inv) (c .before .loop-test .taken))
+walk-cell-requires-3 t c κs =
+    let at-loop-test = c .before in let at-loop = at-loop-test .before in let at-start = at-loop .before .before .before .before .before .before .before .before .before .before in
+    omega (arith, sub-room (at-start .pre .1) (at-loop .loop .inv) (at-loop-test .loop-test .taken))
 
 walk-cell-requires-4 : (t : ℕ) → walk-lts.Need-cell-requires-4 (claims t) (walk-at t) walk.Post walk-Inv-loop walk-μ-loop
-walk-cell-requires-4 t c κs = model-room (c .before .before .before .before .before .before .before .before .before .before .before .before .before .before .pre .1) (c .before .before .before .before .loop .inv) (c .before .before .before .loop-test .taken) (c .before .cell3 .ensures .0)
+walk-cell-requires-4 t c κs =
+    let at-cell3 = c .before in let at-loop-test = at-cell3 .before .before in let at-loop = at-loop-test .before in let at-start = at-loop .before .before .before .before .before .before .before .before .before .before in
+    model-room (at-start .pre .1) (at-loop .loop .inv) (at-loop-test .loop-test .taken) (at-cell3 .cell3 .ensures .0)
 
 walk-sub-if1 : (t : ℕ) → walk-lts.Need-sub-if1 (claims t) (walk-at t) walk.Post walk-Inv-loop walk-μ-loop
 unfolding mostInstances mostElements
@@ -84,12 +92,13 @@ walk-same-length-2 t c = (c .before .before .before .before .before .before .bef
 walk-returns : (t : ℕ) → walk-lts.Need-returns (claims t) (walk-at t) walk.Post walk-Inv-loop walk-μ-loop
 unfolding mostInstances mostElements
 walk-returns t c =
-    let R = c .before .before .before .before .before .before .before .before .before .before .before .before .before .before .before .before .before .pre .1 in
-    let g = c .before .before .before .before .before .before .before .loop .inv in
-    let l = c .before .before .before .before .before .before .loop-test .taken in
-    let cell3 = c .before .before .before .before .cell3 .ensures .0 in
-    let cell4 = c .before .before .cell4 .ensures .0 in
-    let if1-taken = c .before .if1 .taken in
+    let at-if1 = c .before in let at-cell4 = at-if1 .before in let at-cell3 = at-cell4 .before .before in let at-loop-test = at-cell3 .before .before in let at-loop = at-loop-test .before in let at-start = at-loop .before .before .before .before .before .before .before .before .before .before in
+    let R = at-start .pre .1 in
+    let g = at-loop .loop .inv in
+    let l = at-loop-test .loop-test .taken in
+    let cell3 = at-cell3 .cell3 .ensures .0 in
+    let cell4 = at-cell4 .cell4 .ensures .0 in
+    let if1-taken = at-if1 .if1 .taken in
     out-fail (c .walk-answer .ensures .0) (no-room R g l cell3 cell4 if1-taken) (g .left)
 
 walk-sub-set-cell : (t : ℕ) → walk-lts.Need-sub-set-cell (claims t) (walk-at t) walk.Post walk-Inv-loop walk-μ-loop
@@ -97,15 +106,18 @@ walk-sub-set-cell t c = omega (arith, (c .before .before .before .before .before
 
 walk-set-cell-requires : (t : ℕ) → walk-lts.Need-set-cell-requires (claims t) (walk-at t) walk.Post walk-Inv-loop walk-μ-loop
 unfolding mostInstances mostElements
-walk-set-cell-requires t c κs = (omega (arith, sub-room (c .before .before .before .before .before .before .before .before .before .before .before .before .before .before .before .before .before .pre .1) (c .before .before .before .before .before .before .before .loop .inv) (c .before .before .before .before .before .before .loop-test .taken)), omega (arith, (c .before .before .before .before .before .before .before .loop .inv) .light))
+walk-set-cell-requires t c κs =
+    let at-loop-test = c .before .before .before .before .before .before in let at-loop = at-loop-test .before in let at-start = at-loop .before .before .before .before .before .before .before .before .before .before in
+    (omega (arith, sub-room (at-start .pre .1) (at-loop .loop .inv) (at-loop-test .loop-test .taken)), omega (arith, (at-loop .loop .inv) .light))
 
 walk-sub-put-row : (t : ℕ) → walk-lts.Need-sub-put-row (claims t) (walk-at t) walk.Post walk-Inv-loop walk-μ-loop
 unfolding mostInstances mostElements
 walk-sub-put-row t c =
-    let R = c .before .before .before .before .before .before .before .before .before .before .before .before .before .before .before .before .before .before .before .before .before .pre .1 in
-    let g = c .before .before .before .before .before .before .before .before .before .before .before .loop .inv in
-    let l = c .before .before .before .before .before .before .before .before .before .before .loop-test .taken in
-    let if1-left = c .before .before .before .before .before .if1 .left in
+    let at-if1 = c .before .before .before .before .before in let at-loop-test = at-if1 .before .before .before .before .before in let at-loop = at-loop-test .before in let at-start = at-loop .before .before .before .before .before .before .before .before .before .before in
+    let R = at-start .pre .1 in
+    let g = at-loop .loop .inv in
+    let l = at-loop-test .loop-test .taken in
+    let if1-left = at-if1 .if1 .left in
     omega (arith, (room-here R g l if1-left) .up)
 
 walk-sub-put-row-2 : (t : ℕ) → walk-lts.Need-sub-put-row-2 (claims t) (walk-at t) walk.Post walk-Inv-loop walk-μ-loop
@@ -115,33 +127,36 @@ walk-sub-put-row-2 t c = omega (arith, (c .before .before .before .before .befor
 walk-put-row-requires : (t : ℕ) → walk-lts.Need-put-row-requires (claims t) (walk-at t) walk.Post walk-Inv-loop walk-μ-loop
 unfolding mostInstances mostElements
 walk-put-row-requires t c κs =
-    let R = c .before .before .before .before .before .before .before .before .before .before .before .before .before .before .before .before .before .before .before .before .before .pre .1 in
-    let g = c .before .before .before .before .before .before .before .before .before .before .before .loop .inv in
-    let l = c .before .before .before .before .before .before .before .before .before .before .loop-test .taken in
-    let if1-left = c .before .before .before .before .before .if1 .left in
-    let r = (room-here R g l if1-left) in (row-fits R g l r, (omega (arith, r .few), (omega (arith, c .before .before .before .before .before .before .before .before .cell3 .ensures .1), (omega arith, (omega (arith, g .light), (omega (arith, sub-low R g l), omega (arith, R .few)))))))
+    let at-if1 = c .before .before .before .before .before in let at-cell3 = at-if1 .before .before .before in let at-loop-test = at-cell3 .before .before in let at-loop = at-loop-test .before in let at-start = at-loop .before .before .before .before .before .before .before .before .before .before in
+    let R = at-start .pre .1 in
+    let g = at-loop .loop .inv in
+    let l = at-loop-test .loop-test .taken in
+    let if1-left = at-if1 .if1 .left in
+    let r = (room-here R g l if1-left) in (row-fits R g l r, (omega (arith, r .few), (omega (arith, at-cell3 .cell3 .ensures .1), (omega arith, (omega (arith, g .light), (omega (arith, sub-low R g l), omega (arith, R .few)))))))
 
 walk-sub-walk : (t : ℕ) → walk-lts.Need-sub-walk (claims t) (walk-at t) walk.Post walk-Inv-loop walk-μ-loop
 unfolding mostInstances mostElements
 walk-sub-walk t c =
-    let R = c .before .before .before .before .before .before .before .before .before .before .before .before .before .before .before .before .before .before .before .before .before .before .before .before .before .before .pre .1 in
-    let g = c .before .before .before .before .before .before .before .before .before .before .before .before .before .before .before .before .loop .inv in
-    let l = c .before .before .before .before .before .before .before .before .before .before .before .before .before .before .before .loop-test .taken in
-    let if1-left = c .before .before .before .before .before .before .before .before .before .before .if1 .left in
+    let at-if1 = c .before .before .before .before .before .before .before .before .before .before in let at-loop-test = at-if1 .before .before .before .before .before in let at-loop = at-loop-test .before in let at-start = at-loop .before .before .before .before .before .before .before .before .before .before in
+    let R = at-start .pre .1 in
+    let g = at-loop .loop .inv in
+    let l = at-loop-test .loop-test .taken in
+    let if1-left = at-if1 .if1 .left in
     omega (arith, (room-here R g l if1-left) .up)
 
 walk-walk-requires : (t : ℕ) → walk-lts.Need-walk-requires (claims t) (walk-at t) walk.Post walk-Inv-loop walk-μ-loop
 unfolding mostInstances mostElements mostDepth
 walk-walk-requires t c κs =
-    let R = c .before .before .before .before .before .before .before .before .before .before .before .before .before .before .before .before .before .before .before .before .before .before .before .before .before .before .pre .1 in
-    let g = c .before .before .before .before .before .before .before .before .before .before .before .before .before .before .before .before .loop .inv in
-    let l = c .before .before .before .before .before .before .before .before .before .before .before .before .before .before .before .loop-test .taken in
-    let if1-left = c .before .before .before .before .before .before .before .before .before .before .if1 .left in
-    let cell3 = c .before .before .before .before .before .before .before .before .before .before .before .before .before .cell3 .ensures .0 in
-    let cell4 = c .before .before .before .before .before .before .before .before .before .before .before .cell4 .ensures .0 in
-    let set-cell = c .before .before .before .before .before .before .before .before .set-cell .ensures in
-    let put-row = c .before .before .before .before .put-row .ensures in
-    (omega (arith, c .before .before .before .before .before .before .before .before .before .before .before .before .before .before .before .before .before .before .before .before .before .before .before .before .before .before .pre .0, (room-here R g l if1-left) .up), call-requires R g l cell3 cell4 (room-here R g l if1-left) set-cell put-row)
+    let at-put-row = c .before .before .before .before in let at-set-cell = at-put-row .before .before .before .before in let at-if1 = at-set-cell .before .before in let at-cell4 = at-if1 .before in let at-cell3 = at-cell4 .before .before in let at-loop-test = at-cell3 .before .before in let at-loop = at-loop-test .before in let at-start = at-loop .before .before .before .before .before .before .before .before .before .before in
+    let R = at-start .pre .1 in
+    let g = at-loop .loop .inv in
+    let l = at-loop-test .loop-test .taken in
+    let if1-left = at-if1 .if1 .left in
+    let cell3 = at-cell3 .cell3 .ensures .0 in
+    let cell4 = at-cell4 .cell4 .ensures .0 in
+    let set-cell = at-set-cell .set-cell .ensures in
+    let put-row = at-put-row .put-row .ensures in
+    (omega (arith, at-start .pre .0, (room-here R g l if1-left) .up), call-requires R g l cell3 cell4 (room-here R g l if1-left) set-cell put-row)
 
 walk-walk-answer-requires-2 : (t : ℕ) → walk-lts.Need-walk-answer-requires-2 (claims t) (walk-at t) walk.Post walk-Inv-loop walk-μ-loop
 walk-walk-answer-requires-2 t c κs = tt
@@ -149,87 +164,93 @@ walk-walk-answer-requires-2 t c κs = tt
 walk-same-length-3 : (t : ℕ) → walk-lts.Need-same-length-3 (claims t) (walk-at t) walk.Post walk-Inv-loop walk-μ-loop
 unfolding mostInstances mostElements mostDepth
 walk-same-length-3 t c =
-    let R = c .before .before .before .before .before .before .before .before .before .before .before .before .before .before .before .before .before .before .before .before .before .before .before .before .before .before .before .before .before .before .before .before .before .pre .1 in
-    let g = c .before .before .before .before .before .before .before .before .before .before .before .before .before .before .before .before .before .before .before .before .before .before .before .loop .inv in
-    let l = c .before .before .before .before .before .before .before .before .before .before .before .before .before .before .before .before .before .before .before .before .before .before .loop-test .taken in
-    let cell3 = c .before .before .before .before .before .before .before .before .before .before .before .before .before .before .before .before .before .before .before .before .cell3 .ensures .0 in
-    let cell4 = c .before .before .before .before .before .before .before .before .before .before .before .before .before .before .before .before .before .before .cell4 .ensures .0 in
-    let if1-left = c .before .before .before .before .before .before .before .before .before .before .before .before .before .before .before .before .before .if1 .left in
-    let set-cell = c .before .before .before .before .before .before .before .before .before .before .before .before .before .before .before .set-cell .ensures in
-    let put-row = c .before .before .before .before .before .before .before .before .before .before .before .put-row .ensures in
-    let walk = c .before .before .before .before .before .before .walk .ensures in
+    let at-walk = c .before .before .before .before .before .before in let at-put-row = at-walk .before .before .before .before .before in let at-set-cell = at-put-row .before .before .before .before in let at-if1 = at-set-cell .before .before in let at-cell4 = at-if1 .before in let at-cell3 = at-cell4 .before .before in let at-loop-test = at-cell3 .before .before in let at-loop = at-loop-test .before in let at-start = at-loop .before .before .before .before .before .before .before .before .before .before in
+    let R = at-start .pre .1 in
+    let g = at-loop .loop .inv in
+    let l = at-loop-test .loop-test .taken in
+    let cell3 = at-cell3 .cell3 .ensures .0 in
+    let cell4 = at-cell4 .cell4 .ensures .0 in
+    let if1-left = at-if1 .if1 .left in
+    let set-cell = at-set-cell .set-cell .ensures in
+    let put-row = at-put-row .put-row .ensures in
+    let walk = at-walk .walk .ensures in
     keeps-on R g l cell3 cell4 (room-here R g l if1-left) set-cell put-row walk .kept .long
 
 walk-same-length-4 : (t : ℕ) → walk-lts.Need-same-length-4 (claims t) (walk-at t) walk.Post walk-Inv-loop walk-μ-loop
 unfolding mostInstances mostElements mostDepth
 walk-same-length-4 t c =
-    let R = c .before .before .before .before .before .before .before .before .before .before .before .before .before .before .before .before .before .before .before .before .before .before .before .before .before .before .before .before .before .before .before .before .before .pre .1 in
-    let g = c .before .before .before .before .before .before .before .before .before .before .before .before .before .before .before .before .before .before .before .before .before .before .before .loop .inv in
-    let l = c .before .before .before .before .before .before .before .before .before .before .before .before .before .before .before .before .before .before .before .before .before .before .loop-test .taken in
-    let cell3 = c .before .before .before .before .before .before .before .before .before .before .before .before .before .before .before .before .before .before .before .before .cell3 .ensures .0 in
-    let cell4 = c .before .before .before .before .before .before .before .before .before .before .before .before .before .before .before .before .before .before .cell4 .ensures .0 in
-    let if1-left = c .before .before .before .before .before .before .before .before .before .before .before .before .before .before .before .before .before .if1 .left in
-    let set-cell = c .before .before .before .before .before .before .before .before .before .before .before .before .before .before .before .set-cell .ensures in
-    let put-row = c .before .before .before .before .before .before .before .before .before .before .before .put-row .ensures in
-    let walk = c .before .before .before .before .before .before .walk .ensures in
+    let at-walk = c .before .before .before .before .before .before in let at-put-row = at-walk .before .before .before .before .before in let at-set-cell = at-put-row .before .before .before .before in let at-if1 = at-set-cell .before .before in let at-cell4 = at-if1 .before in let at-cell3 = at-cell4 .before .before in let at-loop-test = at-cell3 .before .before in let at-loop = at-loop-test .before in let at-start = at-loop .before .before .before .before .before .before .before .before .before .before in
+    let R = at-start .pre .1 in
+    let g = at-loop .loop .inv in
+    let l = at-loop-test .loop-test .taken in
+    let cell3 = at-cell3 .cell3 .ensures .0 in
+    let cell4 = at-cell4 .cell4 .ensures .0 in
+    let if1-left = at-if1 .if1 .left in
+    let set-cell = at-set-cell .set-cell .ensures in
+    let put-row = at-put-row .put-row .ensures in
+    let walk = at-walk .walk .ensures in
     keeps-on R g l cell3 cell4 (room-here R g l if1-left) set-cell put-row walk .long
 
 walk-returns-2 : (t : ℕ) → walk-lts.Need-returns-2 (claims t) (walk-at t) walk.Post walk-Inv-loop walk-μ-loop
 unfolding mostInstances mostElements mostDepth
 walk-returns-2 t c =
-    let R = c .before .before .before .before .before .before .before .before .before .before .before .before .before .before .before .before .before .before .before .before .before .before .before .before .before .before .before .before .before .before .before .before .before .pre .1 in
-    let g = c .before .before .before .before .before .before .before .before .before .before .before .before .before .before .before .before .before .before .before .before .before .before .before .loop .inv in
-    let l = c .before .before .before .before .before .before .before .before .before .before .before .before .before .before .before .before .before .before .before .before .before .before .loop-test .taken in
-    let cell3 = c .before .before .before .before .before .before .before .before .before .before .before .before .before .before .before .before .before .before .before .before .cell3 .ensures .0 in
-    let cell4 = c .before .before .before .before .before .before .before .before .before .before .before .before .before .before .before .before .before .before .cell4 .ensures .0 in
-    let if1-left = c .before .before .before .before .before .before .before .before .before .before .before .before .before .before .before .before .before .if1 .left in
-    let set-cell = c .before .before .before .before .before .before .before .before .before .before .before .before .before .before .before .set-cell .ensures in
-    let put-row = c .before .before .before .before .before .before .before .before .before .before .before .put-row .ensures in
-    let walk = c .before .before .before .before .before .before .walk .ensures in
-    let if2-taken = c .before .if2 .taken in
+    let at-if2 = c .before in let at-walk = at-if2 .before .before .before .before .before in let at-put-row = at-walk .before .before .before .before .before in let at-set-cell = at-put-row .before .before .before .before in let at-if1 = at-set-cell .before .before in let at-cell4 = at-if1 .before in let at-cell3 = at-cell4 .before .before in let at-loop-test = at-cell3 .before .before in let at-loop = at-loop-test .before in let at-start = at-loop .before .before .before .before .before .before .before .before .before .before in
+    let R = at-start .pre .1 in
+    let g = at-loop .loop .inv in
+    let l = at-loop-test .loop-test .taken in
+    let cell3 = at-cell3 .cell3 .ensures .0 in
+    let cell4 = at-cell4 .cell4 .ensures .0 in
+    let if1-left = at-if1 .if1 .left in
+    let set-cell = at-set-cell .set-cell .ensures in
+    let put-row = at-put-row .put-row .ensures in
+    let walk = at-walk .walk .ensures in
+    let if2-taken = at-if2 .if2 .taken in
     turn-fails R g l cell3 cell4 (room-here R g l if1-left) set-cell put-row walk if2-taken (c .walk-answer2 .ensures .0)
 
 walk-next-submodel-requires-2 : (t : ℕ) → walk-lts.Need-next-submodel-requires-2 (claims t) (walk-at t) walk.Post walk-Inv-loop walk-μ-loop
 unfolding mostInstances mostElements mostDepth
 walk-next-submodel-requires-2 t c κs =
-    let R = c .before .before .before .before .before .before .before .before .before .before .before .before .before .before .before .before .before .before .before .before .before .before .before .before .before .before .before .before .before .before .before .before .before .pre .1 in
-    let g = c .before .before .before .before .before .before .before .before .before .before .before .before .before .before .before .before .before .before .before .before .before .before .before .loop .inv in
-    let l = c .before .before .before .before .before .before .before .before .before .before .before .before .before .before .before .before .before .before .before .before .before .before .loop-test .taken in
-    let cell3 = c .before .before .before .before .before .before .before .before .before .before .before .before .before .before .before .before .before .before .before .before .cell3 .ensures .0 in
-    let cell4 = c .before .before .before .before .before .before .before .before .before .before .before .before .before .before .before .before .before .before .cell4 .ensures .0 in
-    let if1-left = c .before .before .before .before .before .before .before .before .before .before .before .before .before .before .before .before .before .if1 .left in
-    let set-cell = c .before .before .before .before .before .before .before .before .before .before .before .before .before .before .before .set-cell .ensures in
-    let put-row = c .before .before .before .before .before .before .before .before .before .before .before .put-row .ensures in
-    let walk = c .before .before .before .before .before .before .walk .ensures in
+    let at-walk = c .before .before .before .before .before .before in let at-put-row = at-walk .before .before .before .before .before in let at-set-cell = at-put-row .before .before .before .before in let at-if1 = at-set-cell .before .before in let at-cell4 = at-if1 .before in let at-cell3 = at-cell4 .before .before in let at-loop-test = at-cell3 .before .before in let at-loop = at-loop-test .before in let at-start = at-loop .before .before .before .before .before .before .before .before .before .before in
+    let R = at-start .pre .1 in
+    let g = at-loop .loop .inv in
+    let l = at-loop-test .loop-test .taken in
+    let cell3 = at-cell3 .cell3 .ensures .0 in
+    let cell4 = at-cell4 .cell4 .ensures .0 in
+    let if1-left = at-if1 .if1 .left in
+    let set-cell = at-set-cell .set-cell .ensures in
+    let put-row = at-put-row .put-row .ensures in
+    let walk = at-walk .walk .ensures in
     (after-linked R g l cell3 cell4 (room-here R g l if1-left) set-cell put-row walk .numbered, sub-place R g l)
 
 walk-loop-less : (t : ℕ) → walk-lts.Need-loop-less (claims t) (walk-at t) walk.Post walk-Inv-loop walk-μ-loop
 unfolding mostInstances mostElements mostDepth
 walk-loop-less t c =
-    let R = c .before .before .before .before .before .before .before .before .before .before .before .before .before .before .before .before .before .before .before .before .before .before .before .before .before .before .before .before .before .before .before .before .before .before .pre .1 in
-    let g = c .before .before .before .before .before .before .before .before .before .before .before .before .before .before .before .before .before .before .before .before .before .before .before .before .loop .inv in
-    let l = c .before .before .before .before .before .before .before .before .before .before .before .before .before .before .before .before .before .before .before .before .before .before .before .loop-test .taken in
-    let cell3 = c .before .before .before .before .before .before .before .before .before .before .before .before .before .before .before .before .before .before .before .before .before .cell3 .ensures .0 in
-    let cell4 = c .before .before .before .before .before .before .before .before .before .before .before .before .before .before .before .before .before .before .before .cell4 .ensures .0 in
-    let if1-left = c .before .before .before .before .before .before .before .before .before .before .before .before .before .before .before .before .before .before .if1 .left in
-    let set-cell = c .before .before .before .before .before .before .before .before .before .before .before .before .before .before .before .before .set-cell .ensures in
-    let put-row = c .before .before .before .before .before .before .before .before .before .before .before .before .put-row .ensures in
-    let walk = c .before .before .before .before .before .before .before .walk .ensures in
+    let at-walk = c .before .before .before .before .before .before .before in let at-put-row = at-walk .before .before .before .before .before in let at-set-cell = at-put-row .before .before .before .before in let at-if1 = at-set-cell .before .before in let at-cell4 = at-if1 .before in let at-cell3 = at-cell4 .before .before in let at-loop-test = at-cell3 .before .before in let at-loop = at-loop-test .before in let at-start = at-loop .before .before .before .before .before .before .before .before .before .before in
+    let R = at-start .pre .1 in
+    let g = at-loop .loop .inv in
+    let l = at-loop-test .loop-test .taken in
+    let cell3 = at-cell3 .cell3 .ensures .0 in
+    let cell4 = at-cell4 .cell4 .ensures .0 in
+    let if1-left = at-if1 .if1 .left in
+    let set-cell = at-set-cell .set-cell .ensures in
+    let put-row = at-put-row .put-row .ensures in
+    let walk = at-walk .walk .ensures in
     omega (arith, further R g l cell3 cell4 (room-here R g l if1-left) set-cell put-row walk (c .next-submodel2 .ensures), l)
 
 walk-loop-again : (t : ℕ) → walk-lts.Need-loop-again (claims t) (walk-at t) walk.Post walk-Inv-loop walk-μ-loop
 unfolding mostInstances mostElements mostDepth
 walk-loop-again t c =
-    let R = c .before .before .before .before .before .before .before .before .before .before .before .before .before .before .before .before .before .before .before .before .before .before .before .before .before .before .before .before .before .before .before .before .before .before .pre .1 in
-    let g = c .before .before .before .before .before .before .before .before .before .before .before .before .before .before .before .before .before .before .before .before .before .before .before .before .loop .inv in
-    let l = c .before .before .before .before .before .before .before .before .before .before .before .before .before .before .before .before .before .before .before .before .before .before .before .loop-test .taken in
-    let cell3 = c .before .before .before .before .before .before .before .before .before .before .before .before .before .before .before .before .before .before .before .before .before .cell3 .ensures .0 in
-    let cell4 = c .before .before .before .before .before .before .before .before .before .before .before .before .before .before .before .before .before .before .before .cell4 .ensures .0 in
-    let if1-left = c .before .before .before .before .before .before .before .before .before .before .before .before .before .before .before .before .before .before .if1 .left in
-    let set-cell = c .before .before .before .before .before .before .before .before .before .before .before .before .before .before .before .before .set-cell .ensures in
-    let put-row = c .before .before .before .before .before .before .before .before .before .before .before .before .put-row .ensures in
-    let walk = c .before .before .before .before .before .before .before .walk .ensures in
-    let if2-left = c .before .before .if2 .left in
+    let at-if2 = c .before .before in let at-walk = at-if2 .before .before .before .before .before in let at-put-row = at-walk .before .before .before .before .before in let at-set-cell = at-put-row .before .before .before .before in let at-if1 = at-set-cell .before .before in let at-cell4 = at-if1 .before in let at-cell3 = at-cell4 .before .before in let at-loop-test = at-cell3 .before .before in let at-loop = at-loop-test .before in let at-start = at-loop .before .before .before .before .before .before .before .before .before .before in
+    let R = at-start .pre .1 in
+    let g = at-loop .loop .inv in
+    let l = at-loop-test .loop-test .taken in
+    let cell3 = at-cell3 .cell3 .ensures .0 in
+    let cell4 = at-cell4 .cell4 .ensures .0 in
+    let if1-left = at-if1 .if1 .left in
+    let set-cell = at-set-cell .set-cell .ensures in
+    let put-row = at-put-row .put-row .ensures in
+    let walk = at-walk .walk .ensures in
+    let if2-left = at-if2 .if2 .left in
     turn-goes R g l cell3 cell4 (room-here R g l if1-left) set-cell put-row walk if2-left (c .next-submodel2 .ensures)
 
 walk-walk-answer-requires-3 : (t : ℕ) → walk-lts.Need-walk-answer-requires-3 (claims t) (walk-at t) walk.Post walk-Inv-loop walk-μ-loop
@@ -242,7 +263,9 @@ walk-same-length-6 : (t : ℕ) → walk-lts.Need-same-length-6 (claims t) (walk-
 walk-same-length-6 t c = (c .before .before .loop .inv) .left .long
 
 walk-returns-3 : (t : ℕ) → walk-lts.Need-returns-3 (claims t) (walk-at t) walk.Post walk-Inv-loop walk-μ-loop
-walk-returns-3 t c = loop-end (c .before .before .before .before .before .before .before .before .before .before .before .before .pre .1) (c .before .before .loop .inv) (c .before .loop-test .left) (c .walk-answer3 .ensures .0) (c .walk-answer3 .ensures .1 .0) (c .walk-answer3 .ensures .1 .1)
+walk-returns-3 t c =
+    let at-loop-test = c .before in let at-loop = at-loop-test .before in let at-start = at-loop .before .before .before .before .before .before .before .before .before .before in
+    loop-end (at-start .pre .1) (at-loop .loop .inv) (at-loop-test .loop-test .left) (c .walk-answer3 .ensures .0) (c .walk-answer3 .ensures .1 .0) (c .walk-answer3 .ensures .1 .1)
 
 pub +walk-spec : {M : Type 1} → statement M
 +walk-spec = close μ-walk λ t. walk-lts.spec (claims t) (walk-at t) walk.Post walk-Inv-loop walk-μ-loop

@@ -18,7 +18,9 @@ loop-holds : tie.Need-loop-holds Inv-loop μ-loop
 loop-holds c = clear-start _ (c .before .before .args .k) _
 
 set-cell-requires : tie.Need-set-cell-requires Inv-loop μ-loop
-set-cell-requires c κs = (clear-room (c .before .before .before .before .before .pre .0) (c .before .before .before .before .before .pre .1) (c .before .before .loop .inv) (c .before .loop-test .taken), omega arith)
+set-cell-requires c κs =
+    let at-loop-test = c .before in let at-loop = at-loop-test .before in let at-start = at-loop .before .before .before in
+    (clear-room (at-start .pre .0) (at-start .pre .1) (at-loop .loop .inv) (at-loop-test .loop-test .taken), omega arith)
 
 shared-slice-read-record-length : tie.Need-shared-slice-read-record-length Inv-loop μ-loop
 shared-slice-read-record-length c = omega (arith, (c .before .before .before .before .before .loop-test .taken))
@@ -27,19 +29,25 @@ record-length-requires : tie.Need-record-length-requires Inv-loop μ-loop
 record-length-requires c κs = omega (arith, c .before .before .before .before .before .before .before .before .before .pre .0 .narrow)
 
 add-p : tie.Need-add-p Inv-loop μ-loop
-add-p c = omega (arith, walk-fits (c .before .before .before .before .before .before .before .before .before .before .pre .0) ((c .before .before .before .before .before .before .before .loop .inv) .walking) (c .before .before .before .before .before .before .loop-test .taken) (c .record-length .ensures), c .before .before .before .before .before .before .before .before .before .before .pre .0 .short)
+add-p c =
+    let at-loop-test = c .before .before .before .before .before .before in let at-loop = at-loop-test .before in let at-start = at-loop .before .before .before in
+    omega (arith, walk-fits (at-start .pre .0) ((at-loop .loop .inv) .walking) (at-loop-test .loop-test .taken) (c .record-length .ensures), at-start .pre .0 .short)
 
 loop-less : tie.Need-loop-less Inv-loop μ-loop
-loop-less c = omega (arith, walk-fits (c .before .before .before .before .before .before .before .before .before .before .pre .0) ((c .before .before .before .before .before .before .before .loop .inv) .walking) (c .before .before .before .before .before .before .loop-test .taken) (c .record-length .ensures))
+loop-less c =
+    let at-loop-test = c .before .before .before .before .before .before in let at-loop = at-loop-test .before in let at-start = at-loop .before .before .before in
+    omega (arith, walk-fits (at-start .pre .0) ((at-loop .loop .inv) .walking) (at-loop-test .loop-test .taken) (c .record-length .ensures))
 
 loop-again : tie.Need-loop-again Inv-loop μ-loop
-loop-again c = clear-one (c .before .before .before .before .before .before .before .before .before .before .pre .0) (c .before .before .before .before .before .before .before .before .before .before .pre .1) (c .before .before .before .before .before .before .before .loop .inv) (c .before .before .before .before .before .before .loop-test .taken) (c .before .before .before .before .set-cell .ensures) (c .record-length .ensures)
+loop-again c =
+    let at-set-cell = c .before .before .before .before in let at-loop-test = at-set-cell .before .before in let at-loop = at-loop-test .before in let at-start = at-loop .before .before .before in
+    clear-one (at-start .pre .0) (at-start .pre .1) (at-loop .loop .inv) (at-loop-test .loop-test .taken) (at-set-cell .set-cell .ensures) (c .record-length .ensures)
 
 same-length : tie.Need-same-length Inv-loop μ-loop
 same-length c = (c .before .loop .inv) .walking .kept .long
 
 returns : tie.Need-returns Inv-loop μ-loop
-returns c = clear-end (c .before .before .before .before .pre .0) (c .before .before .before .before .pre .1) (c .before .loop .inv) (c .loop-test .left)
+returns c = let at-loop = c .before in let at-start = at-loop .before .before .before in clear-end (at-start .pre .0) (at-start .pre .1) (at-loop .loop .inv) (c .loop-test .left)
 
 pub clear-cells-spec : {M : Type 1} → statement M
 clear-cells-spec = tie.close (tie.spec Inv-loop μ-loop loop-holds set-cell-requires shared-slice-read-record-length

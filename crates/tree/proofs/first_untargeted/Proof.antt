@@ -32,29 +32,33 @@ is-pointer-requires : tie.Need-is-pointer-requires Inv-loop μ-loop
 is-pointer-requires c κs = tt
 
 resolve-port-requires : tie.Need-resolve-port-requires Inv-loop μ-loop
-resolve-port-requires c κs = target-asks (cleared-measured (c .before .before .before .before .before .before .before .before .before .before .before .before .pre) (c .before .before .before .before .before .before .before .before .clear-cells .ensures)) (c .before .before .before .before .before .loop .inv) (c .before .before .before .before .loop-test .taken) (c .before .before .is-pointer .ensures) (c .before .if1 .taken)
+resolve-port-requires c κs =
+    let at-if1 = c .before in let at-is-pointer = at-if1 .before in let at-loop-test = at-is-pointer .before .before in let at-loop = at-loop-test .before in let at-clear-cells = at-loop .before .before .before in let at-start = at-clear-cells .before .before .before .before in
+    target-asks (cleared-measured (at-start .pre) (at-clear-cells .clear-cells .ensures)) (at-loop .loop .inv) (at-loop-test .loop-test .taken) (at-is-pointer .is-pointer .ensures) (at-if1 .if1 .taken)
 
 same-length : tie.Need-same-length Inv-loop μ-loop
 same-length c =
-    let R = c .before .before .before .before .before .before .before .before .before .before .before .before .before .before .before .before .pre in
-    let clear-cells = c .before .before .before .before .before .before .before .before .before .before .before .before .clear-cells .ensures in
-    let g = c .before .before .before .before .before .before .before .before .before .loop .inv in
-    let l = c .before .before .before .before .before .before .before .before .loop-test .taken in
-    let is-pointer = c .before .before .before .before .before .before .is-pointer .ensures in
-    let if1-taken = c .before .before .before .before .before .if1 .taken in
-    let resolve-port = c .before .before .before .resolve-port .ensures in
+    let at-resolve-port = c .before .before .before in let at-if1 = at-resolve-port .before .before in let at-is-pointer = at-if1 .before in let at-loop-test = at-is-pointer .before .before in let at-loop = at-loop-test .before in let at-clear-cells = at-loop .before .before .before in let at-start = at-clear-cells .before .before .before .before in
+    let R = at-start .pre in
+    let clear-cells = at-clear-cells .clear-cells .ensures in
+    let g = at-loop .loop .inv in
+    let l = at-loop-test .loop-test .taken in
+    let is-pointer = at-is-pointer .is-pointer .ensures in
+    let if1-taken = at-if1 .if1 .taken in
+    let resolve-port = at-resolve-port .resolve-port .ensures in
     kept-on (cleared-measured R clear-cells) g l is-pointer if1-taken resolve-port .long ∙ cleared-kept R clear-cells .long
 
 returns : tie.Need-returns Inv-loop μ-loop
 unfolding foundOf
 returns c =
-    let R = c .before .before .before .before .before .before .before .before .before .before .before .before .before .before .before .before .pre in
-    let clear-cells = c .before .before .before .before .before .before .before .before .before .before .before .before .clear-cells .ensures in
-    let g = c .before .before .before .before .before .before .before .before .before .loop .inv in
-    let l = c .before .before .before .before .before .before .before .before .loop-test .taken in
-    let is-pointer = c .before .before .before .before .before .before .is-pointer .ensures in
-    let if1-taken = c .before .before .before .before .before .if1 .taken in
-    let resolve-port = c .before .before .before .resolve-port .ensures in
+    let at-resolve-port = c .before .before .before in let at-if1 = at-resolve-port .before .before in let at-is-pointer = at-if1 .before in let at-loop-test = at-is-pointer .before .before in let at-loop = at-loop-test .before in let at-clear-cells = at-loop .before .before .before in let at-start = at-clear-cells .before .before .before .before in
+    let R = at-start .pre in
+    let clear-cells = at-clear-cells .clear-cells .ensures in
+    let g = at-loop .loop .inv in
+    let l = at-loop-test .loop-test .taken in
+    let is-pointer = at-is-pointer .is-pointer .ensures in
+    let if1-taken = at-if1 .if1 .taken in
+    let resolve-port = at-resolve-port .resolve-port .ensures in
     (at-found (target-hit (cleared-measured R clear-cells) g l is-pointer if1-taken resolve-port (c .if2 .taken)), ((λ z. not-none (found-some {o = none} z)), kept-then (cleared-kept R clear-cells) (kept-on (cleared-measured R clear-cells) g l is-pointer if1-taken resolve-port)))
 
 record-length-requires : tie.Need-record-length-requires Inv-loop μ-loop
@@ -62,30 +66,33 @@ record-length-requires c κs = omega (arith, (c .before .before .before .before 
 
 add-p : tie.Need-add-p Inv-loop μ-loop
 add-p c =
-    let R = c .before .before .before .before .before .before .before .before .before .before .before .before .before .before .before .before .before .pre in
-    let clear-cells = c .before .before .before .before .before .before .before .before .before .before .before .before .before .clear-cells .ensures in
-    let g = c .before .before .before .before .before .before .before .before .before .before .loop .inv in
-    let l = c .before .before .before .before .before .before .before .before .before .loop-test .taken in
+    let at-loop-test = c .before .before .before .before .before .before .before .before .before in let at-loop = at-loop-test .before in let at-clear-cells = at-loop .before .before .before in let at-start = at-clear-cells .before .before .before .before in
+    let R = at-start .pre in
+    let clear-cells = at-clear-cells .clear-cells .ensures in
+    let g = at-loop .loop .inv in
+    let l = at-loop-test .loop-test .taken in
     omega (arith, target-fits (cleared-measured R clear-cells) g l (c .record-length .ensures), R .linked .numbered .shadowed .short)
 
 loop-less : tie.Need-loop-less Inv-loop μ-loop
 loop-less c =
-    let R = c .before .before .before .before .before .before .before .before .before .before .before .before .before .before .before .before .before .pre in
-    let clear-cells = c .before .before .before .before .before .before .before .before .before .before .before .before .before .clear-cells .ensures in
-    let g = c .before .before .before .before .before .before .before .before .before .before .loop .inv in
-    let l = c .before .before .before .before .before .before .before .before .before .loop-test .taken in
+    let at-loop-test = c .before .before .before .before .before .before .before .before .before in let at-loop = at-loop-test .before in let at-clear-cells = at-loop .before .before .before in let at-start = at-clear-cells .before .before .before .before in
+    let R = at-start .pre in
+    let clear-cells = at-clear-cells .clear-cells .ensures in
+    let g = at-loop .loop .inv in
+    let l = at-loop-test .loop-test .taken in
     omega (arith, target-fits (cleared-measured R clear-cells) g l (c .record-length .ensures))
 
 loop-again : tie.Need-loop-again Inv-loop μ-loop
 loop-again c =
-    let R = c .before .before .before .before .before .before .before .before .before .before .before .before .before .before .before .before .before .pre in
-    let clear-cells = c .before .before .before .before .before .before .before .before .before .before .before .before .before .clear-cells .ensures in
-    let g = c .before .before .before .before .before .before .before .before .before .before .loop .inv in
-    let l = c .before .before .before .before .before .before .before .before .before .loop-test .taken in
-    let is-pointer = c .before .before .before .before .before .before .before .is-pointer .ensures in
-    let if1-taken = c .before .before .before .before .before .before .if1 .taken in
-    let resolve-port = c .before .before .before .before .resolve-port .ensures in
-    let if2-left = c .before .if2 .left in
+    let at-if2 = c .before in let at-resolve-port = at-if2 .before .before .before in let at-if1 = at-resolve-port .before .before in let at-is-pointer = at-if1 .before in let at-loop-test = at-is-pointer .before .before in let at-loop = at-loop-test .before in let at-clear-cells = at-loop .before .before .before in let at-start = at-clear-cells .before .before .before .before in
+    let R = at-start .pre in
+    let clear-cells = at-clear-cells .clear-cells .ensures in
+    let g = at-loop .loop .inv in
+    let l = at-loop-test .loop-test .taken in
+    let is-pointer = at-is-pointer .is-pointer .ensures in
+    let if1-taken = at-if1 .if1 .taken in
+    let resolve-port = at-resolve-port .resolve-port .ensures in
+    let if2-left = at-if2 .if2 .left in
     target-more (cleared-measured R clear-cells) g l is-pointer if1-taken resolve-port if2-left (c .record-length .ensures)
 
 record-length-requires-2 : tie.Need-record-length-requires-2 Inv-loop μ-loop
@@ -93,33 +100,40 @@ record-length-requires-2 c κs = omega (arith, (c .before .before .before .befor
 
 add-p-2 : tie.Need-add-p-2 Inv-loop μ-loop
 add-p-2 c =
-    let R = c .before .before .before .before .before .before .before .before .before .before .before .before .pre in
-    let clear-cells = c .before .before .before .before .before .before .before .before .clear-cells .ensures in
-    let g = c .before .before .before .before .before .loop .inv in
-    let l = c .before .before .before .before .loop-test .taken in
+    let at-loop-test = c .before .before .before .before in let at-loop = at-loop-test .before in let at-clear-cells = at-loop .before .before .before in let at-start = at-clear-cells .before .before .before .before in
+    let R = at-start .pre in
+    let clear-cells = at-clear-cells .clear-cells .ensures in
+    let g = at-loop .loop .inv in
+    let l = at-loop-test .loop-test .taken in
     omega (arith, target-fits (cleared-measured R clear-cells) g l (c .record-length2 .ensures), R .linked .numbered .shadowed .short)
 
 loop-less-2 : tie.Need-loop-less-2 Inv-loop μ-loop
-loop-less-2 c = omega (arith, target-fits (cleared-measured (c .before .before .before .before .before .before .before .before .before .before .before .before .pre) (c .before .before .before .before .before .before .before .before .clear-cells .ensures)) (c .before .before .before .before .before .loop .inv) (c .before .before .before .before .loop-test .taken) (c .record-length2 .ensures))
+loop-less-2 c =
+    let at-loop-test = c .before .before .before .before in let at-loop = at-loop-test .before in let at-clear-cells = at-loop .before .before .before in let at-start = at-clear-cells .before .before .before .before in
+    omega (arith, target-fits (cleared-measured (at-start .pre) (at-clear-cells .clear-cells .ensures)) (at-loop .loop .inv) (at-loop-test .loop-test .taken) (c .record-length2 .ensures))
 
 loop-again-2 : tie.Need-loop-again-2 Inv-loop μ-loop
 loop-again-2 c =
-    let R = c .before .before .before .before .before .before .before .before .before .before .before .before .pre in
-    let clear-cells = c .before .before .before .before .before .before .before .before .clear-cells .ensures in
-    let g = c .before .before .before .before .before .loop .inv in
-    let l = c .before .before .before .before .loop-test .taken in
-    let is-pointer = c .before .before .is-pointer .ensures in
-    let if1-left = c .before .if1 .left in
+    let at-if1 = c .before in let at-is-pointer = at-if1 .before in let at-loop-test = at-is-pointer .before .before in let at-loop = at-loop-test .before in let at-clear-cells = at-loop .before .before .before in let at-start = at-clear-cells .before .before .before .before in
+    let R = at-start .pre in
+    let clear-cells = at-clear-cells .clear-cells .ensures in
+    let g = at-loop .loop .inv in
+    let l = at-loop-test .loop-test .taken in
+    let is-pointer = at-is-pointer .is-pointer .ensures in
+    let if1-left = at-if1 .if1 .left in
     target-skip (cleared-measured R clear-cells) g l is-pointer if1-left (c .record-length2 .ensures)
 
 same-length-2 : tie.Need-same-length-2 Inv-loop μ-loop
-same-length-2 c = (c .before .loop .inv) .kept .long ∙ cleared-kept (c .before .before .before .before .before .before .before .before .pre) (c .before .before .before .before .clear-cells .ensures) .long
+same-length-2 c =
+    let at-loop = c .before in let at-clear-cells = at-loop .before .before .before in let at-start = at-clear-cells .before .before .before .before in
+    (at-loop .loop .inv) .kept .long ∙ cleared-kept (at-start .pre) (at-clear-cells .clear-cells .ensures) .long
 
 returns-2 : tie.Need-returns-2 Inv-loop μ-loop
 returns-2 c =
-    let R = c .before .before .before .before .before .before .before .before .pre in
-    let clear-cells = c .before .before .before .before .clear-cells .ensures in
-    let g = c .before .loop .inv in
+    let at-loop = c .before in let at-clear-cells = at-loop .before .before .before in let at-start = at-clear-cells .before .before .before .before in
+    let R = at-start .pre in
+    let clear-cells = at-clear-cells .clear-cells .ensures in
+    let g = at-loop .loop .inv in
     let e = targets-end (cleared-measured R clear-cells) g (c .loop-test .left) in (nothing-found (e .0), ((λ z. e .1), kept-then (cleared-kept R clear-cells) (g .kept)))
 
 pub first-untargeted-spec : {M : Type 1} → statement M

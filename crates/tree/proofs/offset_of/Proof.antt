@@ -8,7 +8,9 @@ use Rattle.tree.proofs.offset_of.Statement.{statement}
 use Rattle.tree.proofs.offset_of.Tie as tie
 
 returns-2 : tie.Need-returns-2
-returns-2 c = let q = c .before .before .cell .ensures .0 in record { small = c .cell2 .ensures .1; blank = λ z. absurd (c .before .if1 .left (q ∙ z)); filled = λ z. c .cell2 .ensures .0 ∙ ap (λ (m : ℕ). getD (c .before .before .before .before .args .t .now) (m + 7) 0) q }
+returns-2 c =
+    let at-if1 = c .before in let at-cell = at-if1 .before in let at-start = at-cell .before .before in
+    let q = at-cell .cell .ensures .0 in record { small = c .cell2 .ensures .1; blank = λ z. absurd (at-if1 .if1 .left (q ∙ z)); filled = λ z. c .cell2 .ensures .0 ∙ ap (λ (m : ℕ). getD (at-start .args .t .now) (m + 7) 0) q }
 
 pub offset-of-spec : {M : Type 1} → statement M
 offset-of-spec = tie.close (tie.spec (search needs) (λ c. search needs) (search needs) returns-2)

@@ -8,7 +8,8 @@ use Rattle.tree.proofs.put_row.Tie as tie
 
 returns : tie.Need-returns
 returns c =
-    rw (c .before .before .set-cell6 .ensures, c .before .before .before .before .before .before .set-cell5 .ensures, c .before .before .before .before .before .before .before .before .before .before .set-cell4 .ensures, c .before .before .before .before .before .before .before .before .before .before .before .before .before .before .set-cell3 .ensures, c .before .before .before .before .before .before .before .before .before .before .before .before .before .before .before .before .before .before .set-cell2 .ensures, c .before .before .before .before .before .before .before .before .before .before .before .before .before .before .before .before .before .before .before .before .before .before .set-cell .ensures, add-zero, add-one, add-two, add-three, add-four, add-five)
+    let at-set-cell6 = c .before .before in let at-set-cell5 = at-set-cell6 .before .before .before .before in let at-set-cell4 = at-set-cell5 .before .before .before .before in let at-set-cell3 = at-set-cell4 .before .before .before .before in let at-set-cell2 = at-set-cell3 .before .before .before .before in let at-set-cell = at-set-cell2 .before .before .before .before in
+    rw (at-set-cell6 .set-cell6 .ensures, at-set-cell5 .set-cell5 .ensures, at-set-cell4 .set-cell4 .ensures, at-set-cell3 .set-cell3 .ensures, at-set-cell2 .set-cell2 .ensures, at-set-cell .set-cell .ensures, add-zero, add-one, add-two, add-three, add-four, add-five)
 
 pub put-row-spec : {M : Type 1} → statement M
 put-row-spec = tie.close (tie.spec (search needs) (search needs) (search needs) (search needs) (search needs)
