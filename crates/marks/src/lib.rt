@@ -164,7 +164,7 @@ fn enter_at(s: &[u8], w: usize, p: usize, t: &[u16], inst: &[u16], cells: &mut [
 }
 
 // Row 9: the first record that conflicts with an earlier one; where there is none, the cells that all records set.
-pub fn first_conflict(s: &[u8], w: usize, t: &[u16], inst: &[u16], cells: &mut [u8]) -> Found
+fn first_conflict(s: &[u8], w: usize, t: &[u16], inst: &[u16], cells: &mut [u8]) -> Found
     requires { ⌜ MarksRequires (recipeAt w (now s)) (now t) (now inst) × (now cells ≡ replicate (12 * 1024) 0) ⌝ }
     ensures { λ r. ⌜ (r ≡ foundOf (fault₉ (recipeAt w (now (s .entry))))) × (r ≡ Found.Nothing → AllStamped (recipeAt w (now (s .entry))) (now (cells .exit)) × (length (now (cells .exit)) ≡ 12 * 1024)) ⌝ }
 {
@@ -213,7 +213,7 @@ fn elements_at(s: &[u8], w: usize, p: usize, t: &[u16], inst: &[u16], el: &mut [
 }
 
 // The elements of the tree by their numbers: the place of each one's record, and the number of its instance.
-pub fn list_elements(s: &[u8], w: usize, t: &[u16], inst: &[u16], el: &mut [u16])
+fn list_elements(s: &[u8], w: usize, t: &[u16], inst: &[u16], el: &mut [u16])
     requires { ⌜ MarksRequires (recipeAt w (now s)) (now t) (now inst) × (5 * 1024 ≤ length (now el)) ⌝ }
     ensures { λ _. ⌜ Listed (recipeAt w (now (s .entry))) (λ x. Unit {0}) (now (el .exit)) × (length (now (el .exit)) ≡ length (now (el .entry))) ⌝ }
 {
@@ -256,7 +256,7 @@ fn is_gone(s: &[u8], w: usize, t: &[u16], cells: &[u8], e: usize, q: usize) -> b
 }
 
 // Marks the elements of the tree that are gone by 1, and the others by 0.
-pub fn mark_gone(s: &[u8], w: usize, t: &[u16], cells: &[u8], el: &mut [u16], elems: usize)
+fn mark_gone(s: &[u8], w: usize, t: &[u16], cells: &[u8], el: &mut [u16], elems: usize)
     requires { ⌜ ElementsRequires (recipeAt w (now s)) (now t) × (AllStamped (recipeAt w (now s)) (now cells) × ((length (now cells) ≡ 12 * 1024) × (ElementRows (recipeAt w (now s)) (now el) × (elems ≡ length (treeElements (recipeAt w (now s))))))) ⌝ }
     ensures { λ _. ⌜ Gones (recipeAt w (now (s .entry))) (now (el .exit)) × Only 2 (now (el .entry)) (now (el .exit)) ⌝ }
 {
@@ -293,7 +293,7 @@ fn aims_at_gone(s: &[u8], w: usize, p: usize, t: &[u16], inst: &[u16], el: &[u16
 }
 
 // Row 11: the first replaced-by whose target is gone, in the tree.
-pub fn first_lost(s: &[u8], w: usize, t: &[u16], inst: &[u16], el: &[u16]) -> Found
+fn first_lost(s: &[u8], w: usize, t: &[u16], inst: &[u16], el: &[u16]) -> Found
     requires { ⌜ MarksRequires (recipeAt w (now s)) (now t) (now inst) × (Gones (recipeAt w (now s)) (now el) × (5 * 1024 ≤ length (now el))) ⌝ }
     ensures { λ r. ⌜ r ≡ foundOf (fault₁₁ (recipeAt w (now (s .entry)))) ⌝ }
 {
@@ -344,7 +344,7 @@ fn steps_at(s: &[u8], w: usize, p: usize, t: &[u16], inst: &[u16], el: &mut [u16
 }
 
 // The chain's steps: of each element of the tree, one more than the number of the next, or 0.
-pub fn fill_steps(s: &[u8], w: usize, t: &[u16], inst: &[u16], el: &mut [u16])
+fn fill_steps(s: &[u8], w: usize, t: &[u16], inst: &[u16], el: &mut [u16])
     requires { ⌜ MarksRequires (recipeAt w (now s)) (now t) (now inst) × ((fault₉ (recipeAt w (now s)) ≡ none) × (NoSteps (recipeAt w (now s)) (now el) × (5 * 1024 ≤ length (now el)))) ⌝ }
     ensures { λ _. ⌜ Nexts (recipeAt w (now (s .entry))) (now (el .exit)) × Only 3 (now (el .entry)) (now (el .exit)) ⌝ }
 {
@@ -430,7 +430,7 @@ fn refers_wrongly(s: &[u8], w: usize, el: &[u16], e: usize, z: usize) -> bool
 }
 
 // Row 12: the lowest record of a survivor whose reference is at fault; and of each survivor the end of the chain from its reference.
-pub fn first_misreferred(s: &[u8], w: usize, t: &[u16], el: &mut [u16], elems: usize) -> Found
+fn first_misreferred(s: &[u8], w: usize, t: &[u16], el: &mut [u16], elems: usize) -> Found
     requires { ⌜ ElementsRequires (recipeAt w (now s)) (now t) × (ElementRows (recipeAt w (now s)) (now el) × (Gones (recipeAt w (now s)) (now el) × (Nexts (recipeAt w (now s)) (now el) × (elems ≡ length (treeElements (recipeAt w (now s))))))) ⌝ }
     ensures { λ r. ⌜ (r ≡ foundOf (fault₁₂ (recipeAt w (now (s .entry))))) × (Ends (recipeAt w (now (s .entry))) (now (el .exit)) × Only 4 (now (el .entry)) (now (el .exit))) ⌝ }
 {

@@ -1,10 +1,7 @@
 -- The elements of the tree, in tree order, have the numbers 0, 1, 2 and so on.
 -- Assumes nothing.
 use Prim.Native.Nat.{_+_, _<_, _≤_, suc, zero, ℕ}
-use borrow.Author.Tests.{eq-eqb, ne-eqb}
-use lib.Dec.{eqb}
 use lib.ListN.{length, length-map}
-use mathlib.Core.Bool.{_&&_, not}
 use mathlib.Core.List.{List, [], _++_, _∷_, append-assoc, append-nil, map}
 use mathlib.Core.Logic.{inl, inr}
 use mathlib.Core.Option.{none}
@@ -13,28 +10,15 @@ use native.Mathlib.Nat.{add-suc, add-zero, suc-add, zero-add}
 use native.Mathlib.Omega.{arith}
 use Rattle.names.specs.Lists.{In, joined}
 use Rattle.names.proofs.Lists.{map-same}
-use Rattle.names.proofs.ListOrder.{Rising, keep-rising, rising-in}
-use Rattle.recipe.specs.Definitions.{elements, holder, main, modelOf, recordsOf, submodels}
-use Rattle.recipe.specs.Records.{Recipe, isElement, isModel, isSubmodel, places}
-use Rattle.recipe.proofs.Reading.{places-rise}
+use Rattle.names.proofs.ListOrder.{Rising, rising-in}
+use Rattle.recipe.specs.Definitions.{elements, main, modelOf, submodels}
+use Rattle.recipe.specs.Records.{Recipe}
 use Rattle.shadow.specs.Columns.{order, upTo}
+use Rattle.shadow.proofs.Counting.{elements-rise, submodels-rise, upTo-head, upTo-tail}
 use Rattle.tree.specs.Faults.{fault₇, mostElements}
 use Rattle.tree.specs.Numbers.{ahead, firstAt, firstBelow, number, run, total, weight, weightIn}
 use Rattle.tree.specs.Tree.{Node, Submodels, definitionAt, definitionBelow, instances, mostDepth, node, nodes, pathsBelow, treeElements}
 use Rattle.tree.proofs.Instances.{at-most-four, elements-most}
-
--- ---- a definition's records rise
-records-rise : (s : Recipe) (d : ℕ) → Rising 0 (recordsOf s d)
-unfolding recordsOf
-records-rise s d = keep-rising (λ p. not (isModel s p) && eqb (holder s p) d) 0 (places s) (places-rise s)
-
-pub elements-rise : (s : Recipe) (d : ℕ) → Rising 0 (elements s d)
-unfolding elements
-elements-rise s d = keep-rising (isElement s) 0 (recordsOf s d) (records-rise s d)
-
-pub submodels-rise : (s : Recipe) (d : ℕ) → Rising 0 (submodels s d)
-unfolding submodels
-submodels-rise s d = keep-rising (isSubmodel s) 0 (recordsOf s d) (records-rise s d)
 
 -- ---- runs of numbers
 run-append : (k a b : ℕ) → run k (a + b) ≡ run k a ++ run (k + a) b
@@ -53,12 +37,6 @@ module _ {A B : Type 0} where
 pub total-cong : (f g : ℕ → ℕ) (xs : List ℕ) → ((a : ℕ) → In a xs → f a ≡ g a) → total f xs ≡ total g xs
 total-cong f g [] h = refl
 total-cong f g (x ∷ xs) h = rw (h x (inl refl), total-cong f g xs (λ a i. h a (inr i)))
-
-pub upTo-head : (f : ℕ → ℕ) (x : ℕ) (xs : List ℕ) → upTo f x (x ∷ xs) ≡ 0
-upTo-head f x xs = rw (eq-eqb x x refl, upTo)
-
-pub upTo-tail : (f : ℕ → ℕ) (m x : ℕ) (xs : List ℕ) → x < m → upTo f m (x ∷ xs) ≡ f x + upTo f m xs
-upTo-tail f m x xs h = rw (ne-eqb x m (λ e. omega arith), upTo)
 
 -- one run for each of a rising list, each where those before it end, make one run
 runs : (f : ℕ → ℕ) (k p : ℕ) (xs : List ℕ) → Rising p xs → joined (map (λ m. run (k + upTo f m xs) (f m)) xs) ≡ run k (total f xs)

@@ -24,7 +24,7 @@ use Rattle.shadow.specs.Shadow.{Shadowed}
 use Rattle.shadow.specs.Columns.{Numbered}
 use Rattle.shadow.proofs.Cells.{Walking, kept-all, next-apart, row-room, step-next, walk-fits, walk-one, walk-place, walk-room}
 use Rattle.tree.specs.Walk.{submodelAfter}
-use Rattle.tree.proofs.Numbering.{submodels-rise}
+use Rattle.shadow.proofs.Counting.{submodels-rise}
 
 -- the first of a rising list that is behind p, where a is the least of those
 first-behind : (p l a : ℕ) (xs : List ℕ) → Rising l xs → In a xs → p < a → ((x : ℕ) → In x xs → p < x → a ≤ x) → first (ltb p) xs ≡ some a

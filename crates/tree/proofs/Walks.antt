@@ -30,7 +30,8 @@ use Rattle.tree.specs.Faults.{mostElements, mostInstances}
 use Rattle.tree.specs.Numbers.{ahead, total, weight, weightIn}
 use Rattle.tree.specs.Tree.{mostDepth}
 use Rattle.tree.specs.Walk.{Covered, Grown, OffsetRight, WalkKeeps, WalkRequires, deepIn, instsIn, over, rowsIn, rowsOver, submodelAfter}
-use Rattle.tree.proofs.Numbering.{Shallow, submodels-rise, total-cong, weight-is}
+use Rattle.shadow.proofs.Counting.{submodels-rise}
+use Rattle.tree.proofs.Numbering.{Shallow, total-cong, weight-is}
 use Rattle.tree.proofs.Submodels.{after-further, after-split, after-start, headOf, holder-own}
 
 -- ---- lists
