@@ -111,7 +111,7 @@ module _ {s : Recipe} {t el pre len : List ℕ} {elems : ℕ} (W : WriterRequire
     x = elementAt s e
 
     module _ {q : ℕ} (hq : q ≡ getD el (5 * e + 0) 0) where
-      pub parent-room : q + 3 < length t
+      pub parent-room : q + 13 ≤ length t
       parent-room = omega (arith, record-is e le hq, cells-room (W .shadowed) (x .place) (element-held s x (k-tree e le) .placed))
 
       -- its class

@@ -52,7 +52,7 @@ cell-requires-3 c κs =
 cell-requires-4 : tie.Need-cell-requires-4 Inv-loop μ-loop
 cell-requires-4 c κs =
     let at-cell2 = c .before in let at-loop-test = at-cell2 .before .before .before in let at-start = at-loop-test .before .before .before .before .before .before .before .before .before .before in
-    parent-room (at-start .pre .0) (below (at-start .pre .0) (at-loop-test .loop-test .taken)) (at-cell2 .cell2 .ensures .0)
+    omega (arith, parent-room (at-start .pre .0) (below (at-start .pre .0) (at-loop-test .loop-test .taken)) (at-cell2 .cell2 .ensures .0))
 
 reference-site-requires : tie.Need-reference-site-requires Inv-loop μ-loop
 reference-site-requires c κs =
@@ -70,7 +70,7 @@ add-out-2 c =
 shared-slice-read-out : tie.Need-shared-slice-read-out Inv-loop μ-loop
 shared-slice-read-out c =
     let at-cell2 = c .before .before .before .before in let at-loop-test = at-cell2 .before .before .before in let at-start = at-loop-test .before .before .before .before .before .before .before .before .before .before in
-    class-inside (at-start .pre .0) (below (at-start .pre .0) (at-loop-test .loop-test .taken)) (at-cell2 .cell2 .ensures .0)
+    omega (arith, class-inside (at-start .pre .0) (below (at-start .pre .0) (at-loop-test .loop-test .taken)) (at-cell2 .cell2 .ensures .0))
 
 slice-write-out : tie.Need-slice-write-out Inv-loop μ-loop
 slice-write-out c =
