@@ -100,22 +100,13 @@ fn key(t: u32, f: &[u8]) -> u32
     t * NAME_NUMBERS + name_index::hash(f) % NAME_NUMBERS
 }
 
-// The w bytes from `at` on.
-fn field(s: &[u8], at: usize, w: usize) -> &[u8]
-    requires { ⌜ at + w ≤ length (now s) ⌝ }
-    ensures { λ r. ⌜ now r ≡ fieldAt w (now (s .entry)) at ⌝ }
-{
-    let end = at + w;
-    &s[at..end]
-}
-
 // The key of the record at p.
 fn key_at(s: &[u8], w: usize, t: &[u16], p: usize) -> u32
     requires { ⌜ Numbered (recipeAt w (now s)) (now t) × In p (places (recipeAt w (now s))) ⌝ }
     ensures { λ r. ⌜ r ≡ keyAt (recipeAt w (now (s .entry))) p ⌝ }
 {
     let d = shadow::cell(t, p, shadow::DEFINITION_OF);
-    key(tag(s[p], p, d), field(s, p + 1, w))
+    key(tag(s[p], p, d), names::field_at(s, p + 1, w))
 }
 
 // Writes the place, the first field and the key of each record, in order, and gives their number.
@@ -206,7 +197,7 @@ fn find_record(
         stride: w,
         width: w,
     };
-    let f = field(s, q.name, w);
+    let f = names::field_at(s, q.name, w);
     let k = key(tag(q.kind, 0, q.definition), f);
     let Found::At(i) = name_index::find(fields, l, at.len(), keys, index, k, f) else {
         return Answer {
@@ -241,7 +232,7 @@ fn find_element(
     requires { ⌜ RecordRequires (recipeAt w (now s)) (now at) (now fields) (now keys) (now index) h × ((q + w ≤ length (now s)) × (isNameOrBlank (fieldAt w (now s) q) ≡ true)) ⌝ }
     ensures { λ r. ⌜ r ≡ answerOf (elementIn (recipeAt w (now (s .entry))) (h .place) (fieldAt w (now (s .entry)) q)) ⌝ }
 {
-    if names::is_blank(field(s, q, w)) {
+    if names::is_blank(names::field_at(s, q, w)) {
         return Answer {
             missing: true,
             place: 0,
@@ -261,7 +252,7 @@ fn parent_fault(s: &[u8], w: usize, p: usize, e: ElementFields, a: Answer) -> bo
     ensures { λ r. ⌜ r ≡ isParentFault (recipeAt w (now (s .entry))) p ⌝ }
 {
     if a.missing {
-        let b = names::is_blank(field(s, e.parent, w));
+        let b = names::is_blank(names::field_at(s, e.parent, w));
         return !(b & flat_table::parent_may_be_blank(e.class));
     }
     let q = recipe::wide(a.place);
@@ -399,7 +390,7 @@ fn link_port(
     requires { ⌜ RecordRequires (recipeAt w (now s)) (now at) (now fields) (now keys) (now index) h × ((kind (recipeAt w (now s)) (h .place) ≡ 3) × (e ≡ portFields (recipeAt w (now s)) (h .place))) ⌝ }
     ensures { λ r. ⌜ r ≡ linksOf (recipeAt w (now (s .entry))) (h .place) ⌝ }
 {
-    if names::is_blank(field(s, e.submodel, w)) {
+    if names::is_blank(names::field_at(s, e.submodel, w)) {
         return link_own_port(s, w, at, fields, keys, index, h, e);
     }
     link_pointer(s, w, at, fields, keys, index, h, e.submodel)

@@ -15,28 +15,28 @@ find-requires c κs = indexes-at _ (c .before .before .before .before .before .b
 
 returns : tie.Need-returns
 returns c =
-    let at-find = c .before .before in let at-key = at-find .before in let at-tag = at-key .before in let at-field = at-tag .before in let at-start = at-field .before .before .before .before .before .before in
-    let pre = at-start .pre in sought-none (pre .0) (pre .1) (at-tag .tag .ensures .0) (at-field .field .ensures) (at-key .key .ensures) (sym (c .enum-told .given .1) ∙ at-find .find .ensures)
+    let at-find = c .before .before in let at-key = at-find .before in let at-tag = at-key .before in let at-field-at = at-tag .before in let at-start = at-field-at .before .before .before .before .before .before in
+    let pre = at-start .pre in sought-none (pre .0) (pre .1) (at-tag .tag .ensures .0) (at-field-at .field-at .ensures) (at-key .key .ensures) (sym (c .enum-told .given .1) ∙ at-find .find .ensures)
 
 cell-requires : tie.Need-cell-requires
 cell-requires c κs =
-    let at-i = c .before in let at-find = at-i .before .before in let at-key = at-find .before in let at-tag = at-key .before in let at-field = at-tag .before in let at-start = at-field .before .before .before .before .before .before in
-    let pre = at-start .pre in let e = sym (at-i .i .given .1) ∙ at-find .find .ensures in omega (arith, sought-low (pre .0) (pre .1) (at-tag .tag .ensures .0) (at-field .field .ensures) (at-key .key .ensures) e)
+    let at-i = c .before in let at-find = at-i .before .before in let at-key = at-find .before in let at-tag = at-key .before in let at-field-at = at-tag .before in let at-start = at-field-at .before .before .before .before .before .before in
+    let pre = at-start .pre in let e = sym (at-i .i .given .1) ∙ at-find .find .ensures in omega (arith, sought-low (pre .0) (pre .1) (at-tag .tag .ensures .0) (at-field-at .field-at .ensures) (at-key .key .ensures) e)
 
 shared-slice-read-if1 : tie.Need-shared-slice-read-if1
 shared-slice-read-if1 c =
-    let at-cell = c .before in let at-i = at-cell .before .before in let at-find = at-i .before .before in let at-key = at-find .before in let at-tag = at-key .before in let at-field = at-tag .before in let at-start = at-field .before .before .before .before .before .before in
-    let pre = at-start .pre in let e = sym (at-i .i .given .1) ∙ at-find .find .ensures in let a = at-start .args in let R : Recipe = record { width = a .w; bytes = a .s .now } in omega (arith, cell-first (at-start .args .at .now) (at-i .i .given .0 .0) (at-cell .cell .ensures .0), place-room R _ (sought-in (pre .0) (pre .1) (at-tag .tag .ensures .0) (at-field .field .ensures) (at-key .key .ensures) e))
+    let at-cell = c .before in let at-i = at-cell .before .before in let at-find = at-i .before .before in let at-key = at-find .before in let at-tag = at-key .before in let at-field-at = at-tag .before in let at-start = at-field-at .before .before .before .before .before .before in
+    let pre = at-start .pre in let e = sym (at-i .i .given .1) ∙ at-find .find .ensures in let a = at-start .args in let R : Recipe = record { width = a .w; bytes = a .s .now } in omega (arith, cell-first (at-start .args .at .now) (at-i .i .given .0 .0) (at-cell .cell .ensures .0), place-room R _ (sought-in (pre .0) (pre .1) (at-tag .tag .ensures .0) (at-field-at .field-at .ensures) (at-key .key .ensures) e))
 
 returns-2 : tie.Need-returns-2
 returns-2 c =
-    let at-cell = c .before .before .before in let at-i = at-cell .before .before in let at-find = at-i .before .before in let at-key = at-find .before in let at-tag = at-key .before in let at-field = at-tag .before in let at-start = at-field .before .before .before .before .before .before in
-    let pre = at-start .pre in let e = sym (at-i .i .given .1) ∙ at-find .find .ensures in sought-some (pre .0) (pre .1) (at-tag .tag .ensures .0) (at-field .field .ensures) (at-key .key .ensures) e (cell-first (at-start .args .at .now) (at-i .i .given .0 .0) (at-cell .cell .ensures .0)) (c .if1 .taken)
+    let at-cell = c .before .before .before in let at-i = at-cell .before .before in let at-find = at-i .before .before in let at-key = at-find .before in let at-tag = at-key .before in let at-field-at = at-tag .before in let at-start = at-field-at .before .before .before .before .before .before in
+    let pre = at-start .pre in let e = sym (at-i .i .given .1) ∙ at-find .find .ensures in sought-some (pre .0) (pre .1) (at-tag .tag .ensures .0) (at-field-at .field-at .ensures) (at-key .key .ensures) e (cell-first (at-start .args .at .now) (at-i .i .given .0 .0) (at-cell .cell .ensures .0)) (c .if1 .taken)
 
 returns-3 : tie.Need-returns-3
 returns-3 c =
-    let at-cell = c .before .before .before in let at-i = at-cell .before .before in let at-find = at-i .before .before in let at-key = at-find .before in let at-tag = at-key .before in let at-field = at-tag .before in let at-start = at-field .before .before .before .before .before .before in
-    let pre = at-start .pre in let e = sym (at-i .i .given .1) ∙ at-find .find .ensures in sought-other (pre .0) (pre .1) (at-tag .tag .ensures .0) (at-field .field .ensures) (at-key .key .ensures) e (cell-first (at-start .args .at .now) (at-i .i .given .0 .0) (at-cell .cell .ensures .0)) (c .if1 .left)
+    let at-cell = c .before .before .before in let at-i = at-cell .before .before in let at-find = at-i .before .before in let at-key = at-find .before in let at-tag = at-key .before in let at-field-at = at-tag .before in let at-start = at-field-at .before .before .before .before .before .before in
+    let pre = at-start .pre in let e = sym (at-i .i .given .1) ∙ at-find .find .ensures in sought-other (pre .0) (pre .1) (at-tag .tag .ensures .0) (at-field-at .field-at .ensures) (at-key .key .ensures) e (cell-first (at-start .args .at .now) (at-i .i .given .0 .0) (at-cell .cell .ensures .0)) (c .if1 .left)
 
 pub find-record-spec : {M : Type 1} → statement M
 find-record-spec = tie.close (tie.spec (search needs) (search needs) (search needs) find-requires (search needs)

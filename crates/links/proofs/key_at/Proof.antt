@@ -24,21 +24,21 @@ tag-requires c κs =
     let at-cell = c .before in let at-start = at-cell .before .before .before in
     let pre = at-start .pre in let a = at-start .args in let R : Recipe = record { width = a .w; bytes = a .s .now } in let room = place-room R (a .p) (pre .1) in (omega (arith, pre .0 .shadowed .short), omega (arith, at-cell .cell .ensures .0, pre .0 .held _ (pre .1), holder-below R (a .p), pre .0 .shadowed .short))
 
-add-field : tie.Need-add-field
-add-field c =
+add-field-at : tie.Need-add-field-at
+add-field-at c =
     let at-start = c .before .before .before .before .before in
     let pre = at-start .pre in let a = at-start .args in let R : Recipe = record { width = a .w; bytes = a .s .now } in let room = place-room R (a .p) (pre .1) in omega (arith, pre .0 .shadowed .short)
 
-field-requires : tie.Need-field-requires
-field-requires c κs =
+field-at-requires : tie.Need-field-at-requires
+field-at-requires c κs =
     let at-start = c .before .before .before .before .before in
     let pre = at-start .pre in let a = at-start .args in let R : Recipe = record { width = a .w; bytes = a .s .now } in let room = place-room R (a .p) (pre .1) in omega arith
 
 returns : tie.Need-returns
 returns c =
-    let at-field = c .before in let at-tag = at-field .before in let at-cell = at-tag .before .before in let at-start = at-cell .before .before .before in
-    let pre = at-start .pre in key-is _ _ (at-cell .cell .ensures .0 ∙ pre .0 .held _ (pre .1)) (at-tag .tag .ensures .0) (at-field .field .ensures) (c .key .ensures)
+    let at-field-at = c .before in let at-tag = at-field-at .before in let at-cell = at-tag .before .before in let at-start = at-cell .before .before .before in
+    let pre = at-start .pre in key-is _ _ (at-cell .cell .ensures .0 ∙ pre .0 .held _ (pre .1)) (at-tag .tag .ensures .0) (at-field-at .field-at .ensures) (c .key .ensures)
 
 pub key-at-spec : {M : Type 1} → statement M
-key-at-spec = tie.close (tie.spec cell-requires shared-slice-read-tag tag-requires add-field field-requires
+key-at-spec = tie.close (tie.spec cell-requires shared-slice-read-tag tag-requires add-field-at field-at-requires
     (search needs) returns)

@@ -10,13 +10,13 @@ use borrow.Author.Needs.{needs}
 use Rattle.links.proofs.parent_fault.Statement.{statement}
 use Rattle.links.proofs.parent_fault.Tie as tie
 
-field-requires : tie.Need-field-requires
-field-requires c κs = let pre = c .before .before .pre in let a = c .before .before .args in let R : Recipe = record { width = a .w; bytes = a .s .now } in let g = parent-at R (a .p) (pre .0) (pre .1 .0) (pre .1 .1 .0) in let k = class-is R (a .p) (pre .0) (pre .1 .0) (pre .1 .1 .0) in let ea = pre .1 .1 .1 in g .room
+field-at-requires : tie.Need-field-at-requires
+field-at-requires c κs = let pre = c .before .before .pre in let a = c .before .before .args in let R : Recipe = record { width = a .w; bytes = a .s .now } in let g = parent-at R (a .p) (pre .0) (pre .1 .0) (pre .1 .1 .0) in let k = class-is R (a .p) (pre .0) (pre .1 .0) (pre .1 .1 .0) in let ea = pre .1 .1 .1 in g .room
 
 returns : tie.Need-returns
 returns c =
-    let at-is-blank = c .before in let at-field = at-is-blank .before in let at-if1 = at-field .before in let at-start = at-if1 .before .before in
-    let pre = at-start .pre in let a = at-start .args in let R : Recipe = record { width = a .w; bytes = a .s .now } in let g = parent-at R (a .p) (pre .0) (pre .1 .0) (pre .1 .1 .0) in let k = class-is R (a .p) (pre .0) (pre .1 .0) (pre .1 .1 .0) in let ea = pre .1 .1 .1 in parent-missing R (a .p) g k ea (at-if1 .if1 .taken) (at-is-blank .is-blank .ensures ∙ ap isBlank (at-field .field .ensures)) (c .parent-may-be-blank .ensures)
+    let at-is-blank = c .before in let at-field-at = at-is-blank .before in let at-if1 = at-field-at .before in let at-start = at-if1 .before .before in
+    let pre = at-start .pre in let a = at-start .args in let R : Recipe = record { width = a .w; bytes = a .s .now } in let g = parent-at R (a .p) (pre .0) (pre .1 .0) (pre .1 .1 .0) in let k = class-is R (a .p) (pre .0) (pre .1 .0) (pre .1 .1 .0) in let ea = pre .1 .1 .1 in parent-missing R (a .p) g k ea (at-if1 .if1 .taken) (at-is-blank .is-blank .ensures ∙ ap isBlank (at-field-at .field-at .ensures)) (c .parent-may-be-blank .ensures)
 
 add-parent-allowed-2 : tie.Need-add-parent-allowed-2
 add-parent-allowed-2 c =
@@ -34,5 +34,5 @@ returns-2 c =
     let pre = at-start .pre in let a = at-start .args in let R : Recipe = record { width = a .w; bytes = a .s .now } in let g = parent-at R (a .p) (pre .0) (pre .1 .0) (pre .1 .1 .0) in let k = class-is R (a .p) (pre .0) (pre .1 .0) (pre .1 .1 .0) in let ea = pre .1 .1 .1 in parent-there R (a .p) g k ea (at-if1 .if1 .left) (at-wide .wide .ensures .0) (c .parent-allowed .ensures)
 
 pub parent-fault-spec : {M : Type 1} → statement M
-parent-fault-spec = tie.close (tie.spec field-requires (search needs) (search needs) returns (search needs)
+parent-fault-spec = tie.close (tie.spec field-at-requires (search needs) (search needs) returns (search needs)
     (search needs) add-parent-allowed-2 shared-slice-read-parent-allowed (search needs) returns-2)
