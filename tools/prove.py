@@ -299,9 +299,7 @@ def short_list(text):
     if m is None:
         return text
     plain = [need.group(1) for need in PLAIN.finditer(text)]
-    names = {need: "(search needs)" for need in plain}
-    names |= {need: "(λ c. search needs)" for need in plain if re.search("returns|holds|again", need)}
-    names |= {need: "(λ c κs. search needs)" for need in plain if "requires" in need}
+    names = {need: "(λ c κs. search needs)" if "requires" in need else "(λ c. search needs)" for need in plain}
     words = [names.get(word.strip("()").split(" ")[0], word) for word in arguments(m.group(4))]
     head = m.group(2).rstrip()
     lines = ["%s %s" % (m.group(1), " ".join(head.split())) if "\n)" not in head else m.group(1) + head]

@@ -29,4 +29,4 @@ returns-3 c =
     got-more (toZ w64 (ofZ w64 (at-start .args .got))) (length (now (at-start .args .room))) (at-if1 .if1 .left) (at-count .count .ensures .1) (c .if2 .left) ∙ ap (λ (z : ℤ). gotOf z (length (now (at-start .args .room)))) (toZ-ofZ (at-start .fits .got))
 
 pub judge-spec : {M : Type 1} → statement M
-judge-spec = tie.close (tie.spec returns (search needs) returns-2 returns-3)
+judge-spec = tie.close (tie.spec returns (λ c. search needs) returns-2 returns-3)

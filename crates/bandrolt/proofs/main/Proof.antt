@@ -20,6 +20,6 @@ print-recipe-requires c κs =
     }
 
 pub main-spec : {M : Type 1} → statement M
-main-spec = tie.close (tie.spec (search needs) (search needs) (search needs) (search needs) (search needs)
-    (search needs) (search needs) (search needs) (search needs) (search needs) print-recipe-requires (search needs)
-    (search needs) (search needs) (search needs) (search needs) (search needs) (search needs))
+main-spec = tie.close (tie.spec (λ c. search needs) (λ c. search needs) (λ c. search needs) (λ c. search needs) (λ c. search needs)
+    (λ c. search needs) (λ c. search needs) (λ c. search needs) (λ c. search needs) (λ c. search needs) print-recipe-requires (λ c. search needs)
+    (λ c. search needs) (λ c. search needs) (λ c. search needs) (λ c. search needs) (λ c. search needs) (λ c. search needs))

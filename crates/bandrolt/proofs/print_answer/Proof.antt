@@ -12,4 +12,4 @@ returns-2 : tie.Need-returns-2
 returns-2 c = accepted-stands _ _ (c .before .before .before .before .if1 .left) (c .before .before .print-table .ensures)
 
 pub print-answer-spec : {M : Type 1} → statement M
-print-answer-spec = tie.close (tie.spec (search needs) (search needs) returns (search needs) (search needs) returns-2)
+print-answer-spec = tie.close (tie.spec (λ c. search needs) (λ c. search needs) returns (λ c. search needs) (λ c. search needs) returns-2)

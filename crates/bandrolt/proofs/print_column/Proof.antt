@@ -9,5 +9,5 @@ returns : tie.Need-returns
 returns c = column-stands _ _ (c .before .before .before .before .before .before .before .put .ensures) (c .before .before .print-field .ensures)
 
 pub print-column-spec : {M : Type 1} → statement M
-print-column-spec = tie.close (tie.spec (search needs) (search needs) (search needs) (search needs) (search needs)
-    (search needs) (search needs) (search needs) returns)
+print-column-spec = tie.close (tie.spec (λ c. search needs) (λ c. search needs) (λ c. search needs) (λ c. search needs) (λ c. search needs)
+    (λ c. search needs) (λ c. search needs) (λ c. search needs) returns)

@@ -18,5 +18,5 @@ returns c =
     decimal-stands (at-start .args .k) (at-decimal .decimal .result) (at-decimal .decimal .last .1 .0) (word-digits (at-decimal .decimal .result) (at-start .args .k) (at-start .fits .k .fits) (at-decimal .decimal .ensures .1 .0)) (at-decimal .decimal .ensures .0 .1) (at-decimal .decimal .ensures .1 .0) (at-decimal .decimal .ensures .1 .1) (at-put .put .ensures)
 
 pub print-decimal-spec : {M : Type 1} → statement M
-print-decimal-spec = tie.close (tie.spec (search needs) (search needs) (search needs) put-requires (search needs)
+print-decimal-spec = tie.close (tie.spec (λ c. search needs) (λ c. search needs) (λ c. search needs) put-requires (λ c. search needs)
     returns)

@@ -22,5 +22,5 @@ returns-2 c =
     text-stands _ (at-is-blank .is-blank .ensures) (at-if1 .if1 .left) (at-start .pre .0) (at-unpadded .unpadded .ensures) (at-put2 .put2 .ensures)
 
 pub print-field-spec : {M : Type 1} → statement M
-print-field-spec = tie.close (tie.spec (search needs) (search needs) (search needs) (search needs) returns
-    (search needs) put-requires-2 (search needs) returns-2)
+print-field-spec = tie.close (tie.spec (λ c. search needs) (λ c. search needs) (λ c. search needs) (λ c. search needs) returns
+    (λ c. search needs) put-requires-2 (λ c. search needs) returns-2)

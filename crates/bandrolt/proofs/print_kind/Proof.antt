@@ -10,4 +10,4 @@ returns : tie.Need-returns
 returns c = kind-stands _ (omega arith) (c .before .before .print-decimal .ensures .0)
 
 pub print-kind-spec : {M : Type 1} → statement M
-print-kind-spec = tie.close (tie.spec (search needs) (search needs) returns)
+print-kind-spec = tie.close (tie.spec (λ c. search needs) (λ c. search needs) returns)

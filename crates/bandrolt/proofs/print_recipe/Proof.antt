@@ -32,5 +32,5 @@ returns c =
     output-stands (at-start .args .input .now) (at-start .args .n) (at-start .args .table .now) (at-start .pre) (at-flatten .flatten .ensures .0) (at-flatten .flatten .ensures .1) (at-print-answer .print-answer .ensures)
 
 pub print-recipe-spec : {M : Type 1} → statement M
-print-recipe-spec = tie.close (tie.spec slice-aggregate-flatten (search needs) slice-reshare-prefix-print-answer
-    slice-aggregate-print-answer print-answer-requires (search needs) (search needs) returns)
+print-recipe-spec = tie.close (tie.spec slice-aggregate-flatten (λ c. search needs) slice-reshare-prefix-print-answer
+    slice-aggregate-print-answer print-answer-requires (λ c. search needs) (λ c. search needs) returns)

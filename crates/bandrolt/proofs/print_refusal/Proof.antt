@@ -13,5 +13,5 @@ returns c =
     refusal-stands _ _ (at-put .put .ensures) (at-print-decimal .print-decimal .ensures .0) (at-put2 .put2 .ensures) (at-print-decimal2 .print-decimal2 .ensures .0) (at-put3 .put3 .ensures)
 
 pub print-refusal-spec : {M : Type 1} → statement M
-print-refusal-spec = tie.close (tie.spec (search needs) (search needs) (search needs) (search needs) (search needs)
-    (search needs) (search needs) (search needs) (search needs) returns)
+print-refusal-spec = tie.close (tie.spec (λ c. search needs) (λ c. search needs) (λ c. search needs) (λ c. search needs) (λ c. search needs)
+    (λ c. search needs) (λ c. search needs) (λ c. search needs) (λ c. search needs) returns)

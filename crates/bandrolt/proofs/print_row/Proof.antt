@@ -11,5 +11,5 @@ returns c =
     row-stands _ _ (at-print-kind .print-kind .ensures) (at-print-column .print-column .ensures) (at-print-column2 .print-column2 .ensures) (at-print-column3 .print-column3 .ensures) (at-put .put .ensures)
 
 pub print-row-spec : {M : Type 1} → statement M
-print-row-spec = tie.close (tie.spec (search needs) (search needs) (search needs) (search needs) (search needs)
-    (search needs) (search needs) (search needs) (search needs) (search needs) (search needs) returns)
+print-row-spec = tie.close (tie.spec (λ c. search needs) (λ c. search needs) (λ c. search needs) (λ c. search needs) (λ c. search needs)
+    (λ c. search needs) (λ c. search needs) (λ c. search needs) (λ c. search needs) (λ c. search needs) (λ c. search needs) returns)

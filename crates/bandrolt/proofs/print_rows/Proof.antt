@@ -33,5 +33,5 @@ returns : tie.Need-returns Inv-loop μ-loop
 returns c = going-end _ (c .before .loop .inv) (c .loop-test .left)
 
 pub print-rows-spec : {M : Type 1} → statement M
-print-rows-spec = tie.close (tie.spec Inv-loop μ-loop loop-holds sub-loop print-row-requires (search needs)
-    (search needs) loop-again same-length returns)
+print-rows-spec = tie.close (tie.spec Inv-loop μ-loop loop-holds sub-loop print-row-requires (λ c. search needs)
+    (λ c. search needs) loop-again same-length returns)

@@ -13,5 +13,5 @@ returns c =
     table-stands _ _ (at-put .put .ensures) (at-print-decimal .print-decimal .ensures .0) (at-put2 .put2 .ensures) (at-print-rows .print-rows .ensures)
 
 pub print-table-spec : {M : Type 1} → statement M
-print-table-spec = tie.close (tie.spec (search needs) (search needs) (search needs) (search needs) (search needs)
-    (search needs) (search needs) returns)
+print-table-spec = tie.close (tie.spec (λ c. search needs) (λ c. search needs) (λ c. search needs) (λ c. search needs) (λ c. search needs)
+    (λ c. search needs) (λ c. search needs) returns)

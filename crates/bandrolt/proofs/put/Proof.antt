@@ -11,4 +11,4 @@ returns c =
     copied-stands (at-start .args .bytes .now) (at-start .args .text .now) (at-start .args .at) (at-start .pre) (at-put-bytes .put-bytes .ensures)
 
 pub put-spec : {M : Type 1} → statement M
-put-spec = tie.close (tie.spec (search needs) (search needs) (search needs) returns)
+put-spec = tie.close (tie.spec (λ c. search needs) (λ c. search needs) (λ c. search needs) returns)

@@ -31,7 +31,7 @@ loop-again c =
     omega (arith, turn _ (at-loop .loop .input) (at-loop .loop .n) (at-read .read .last .1 .0) (at-read .read .kept .1 .0) (sym (at-got .got .given .1) ∙ at-judge .judge .ensures) (at-loop-test .loop-test .taken))
 
 pub read-input-spec : {M : Type 1} → statement M
-read-input-spec = tie.close (tie.spec Inv-loop μ-loop (search needs) (search needs) (search needs) (search needs)
-    (search needs) (search needs) (search needs) (search needs) (search needs) (search needs) add-n loop-less loop-again
-    (search needs) (search needs) (search needs) (search needs) (search needs) (search needs) (search needs)
-    (search needs))
+read-input-spec = tie.close (tie.spec Inv-loop μ-loop (λ c. search needs) (λ c. search needs) (λ c. search needs) (λ c. search needs)
+    (λ c. search needs) (λ c. search needs) (λ c. search needs) (λ c. search needs) (λ c. search needs) (λ c. search needs) add-n loop-less loop-again
+    (λ c. search needs) (λ c. search needs) (λ c. search needs) (λ c. search needs) (λ c. search needs) (λ c. search needs) (λ c. search needs)
+    (λ c. search needs))

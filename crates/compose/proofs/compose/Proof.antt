@@ -34,5 +34,5 @@ returns-2 c =
     (hand-second (formRows (record { width = at-start .args .w; bytes = at-start .args .s .now }) ++ namingRows (record { width = at-start .args .w; bytes = at-start .args .s .now })) (treeRows (record { width = at-start .args .w; bytes = at-start .args .s .now }) ++ (targetRows (record { width = at-start .args .w; bytes = at-start .args .s .now }) ++ (markRows (record { width = at-start .args .w; bytes = at-start .args .s .now }) ++ referenceRows (record { width = at-start .args .w; bytes = at-start .args .s .now })))) (handed-none (formRows (record { width = at-start .args .w; bytes = at-start .args .s .now }) ++ namingRows (record { width = at-start .args .w; bytes = at-start .args .s .now })) refl (at-read .read .ensures .0) (at-if1 .if1 .left)) (at-judge-tree .judge-tree .ensures .0), at-judge-tree .judge-tree .ensures .1)
 
 pub compose-spec : {M : Type 1} → statement M
-compose-spec = tie.close (tie.spec read-requires (search needs) (search needs) returns judge-tree-requires
-    (search needs) (search needs) (search needs) returns-2)
+compose-spec = tie.close (tie.spec read-requires (λ c. search needs) (λ c. search needs) returns judge-tree-requires
+    (λ c. search needs) (λ c. search needs) (λ c. search needs) returns-2)

@@ -35,6 +35,6 @@ returns-4 c =
     c .refuse4 .ensures ∙ (no-rows ∙ (row-miss 3 _ _ (sym (at-enum-told2 .enum-told2 .given .1) ∙ at-first-unformed .first-unformed .ensures) ∙ (row-miss 2 _ _ (nothing-found (whole-fault (record { width = at-start .args .w; bytes = at-start .args .s .now }) _ (at-reading-stop .reading-stop .ensures) (at-if1 .if1 .left))) ∙ row-miss 1 _ _ (sym (at-enum-told .enum-told .given .1) ∙ at-length-fault .length-fault .ensures (at-start .args .w)))))
 
 pub judge-form-spec : {M : Type 1} → statement M
-judge-form-spec = tie.close (tie.spec (search needs) (search needs) (search needs) returns (search needs) (search needs)
-    (search needs) returns-2 first-unformed-requires (search needs) (search needs) returns-3 (search needs)
-    (search needs) returns-4)
+judge-form-spec = tie.close (tie.spec (λ c. search needs) (λ c. search needs) (λ c. search needs) returns (λ c. search needs) (λ c. search needs)
+    (λ c. search needs) returns-2 first-unformed-requires (λ c. search needs) (λ c. search needs) returns-3 (λ c. search needs)
+    (λ c. search needs) returns-4)

@@ -40,6 +40,6 @@ returns-3 c =
     (hand-second (declaredRows (record { width = at-start .args .w; bytes = at-start .args .s .now })) (row 6 (fault₆ (record { width = at-start .args .w; bytes = at-start .args .s .now })) ∷ []) (handed-none (declaredRows (record { width = at-start .args .w; bytes = at-start .args .s .now })) refl (at-resolve-names .resolve-names .ensures .0) (at-if1 .if1 .left)) (c .refuse2 .ensures ∙ (no-rows ∙ row-miss 6 _ _ (sym (at-enum-told .enum-told .given .1) ∙ at-find-heights .find-heights .ensures .0))), λ z. at-find-heights .find-heights .ensures .1 (at-enum-told .enum-told .given .1))
 
 pub judge-names-spec : {M : Type 1} → statement M
-judge-names-spec = tie.close (tie.spec number-records-requires resolve-names-requires (search needs) returns
-    find-heights-requires (search needs) (search needs) (search needs) returns-2 (search needs) (search needs)
-    (search needs) returns-3)
+judge-names-spec = tie.close (tie.spec number-records-requires resolve-names-requires (λ c. search needs) returns
+    find-heights-requires (λ c. search needs) (λ c. search needs) (λ c. search needs) returns-2 (λ c. search needs) (λ c. search needs)
+    (λ c. search needs) returns-3)

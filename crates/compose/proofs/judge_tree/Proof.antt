@@ -36,6 +36,6 @@ returns-3 c =
     rw (c .answer3 .ensures) (at-judge-marks .judge-marks .ensures .0 ∙ (row-miss 8 _ _ (sym (at-enum-told .enum-told .given .1) ∙ at-first-untargeted .first-untargeted .ensures .0) ∙ row-miss 7 _ _ (small (record { width = at-start .args .w; bytes = at-start .args .s .now }) (sym (at-if1 .if1 .left) ∙ at-plant .plant .ensures .0))), λ z. at-judge-marks .judge-marks .ensures .1 z)
 
 pub judge-tree-spec : {M : Type 1} → statement M
-judge-tree-spec = tie.close (tie.spec plant-requires (search needs) (search needs) (search needs) (search needs) returns
-    first-untargeted-requires (search needs) (search needs) (search needs) (search needs) (search needs) returns-2
-    (search needs) judge-marks-requires (search needs) (search needs) (search needs) (search needs) returns-3)
+judge-tree-spec = tie.close (tie.spec plant-requires (λ c. search needs) (λ c. search needs) (λ c. search needs) (λ c. search needs) returns
+    first-untargeted-requires (λ c. search needs) (λ c. search needs) (λ c. search needs) (λ c. search needs) (λ c. search needs) returns-2
+    (λ c. search needs) judge-marks-requires (λ c. search needs) (λ c. search needs) (λ c. search needs) (λ c. search needs) returns-3)

@@ -29,4 +29,4 @@ returns-2 c =
     (hand-second (formRows (record { width = at-start .args .w; bytes = at-start .args .s .now })) (namingRows (record { width = at-start .args .w; bytes = at-start .args .s .now })) (handed-none (formRows (record { width = at-start .args .w; bytes = at-start .args .s .now })) refl (at-judge-form .judge-form .ensures) (at-if1 .if1 .left)) (at-judge-names .judge-names .ensures .0), at-judge-names .judge-names .ensures .1)
 
 pub read-spec : {M : Type 1} → statement M
-read-spec = tie.close (tie.spec judge-form-requires returns judge-names-requires (search needs) returns-2)
+read-spec = tie.close (tie.spec judge-form-requires returns judge-names-requires (λ c. search needs) returns-2)

@@ -47,5 +47,5 @@ returns c =
     count-end (record { width = at-start .args .w; bytes = at-start .args .s .now }) (at-loop .loop .inv) (at-start .pre .count) (c .loop-test .left)
 
 pub count-survivors-spec : {M : Type 1} → statement M
-count-survivors-spec = tie.close (tie.spec Inv-loop μ-loop loop-holds mul-cell cell-requires add-n add-e (search needs)
-    loop-again add-e-2 (search needs) loop-again-2 returns)
+count-survivors-spec = tie.close (tie.spec Inv-loop μ-loop loop-holds mul-cell cell-requires add-n add-e (λ c. search needs)
+    loop-again add-e-2 (λ c. search needs) loop-again-2 returns)

@@ -11,4 +11,4 @@ unfolding flatWidth
 returns c = omega arith
 
 pub field-width-spec : {M : Type 1} → statement M
-field-width-spec = tie.close (tie.spec (search needs) (search needs) returns)
+field-width-spec = tie.close (tie.spec (λ c. search needs) (λ c. search needs) returns)

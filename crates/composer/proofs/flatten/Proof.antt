@@ -27,5 +27,5 @@ unfolding recipeOf nameWidth
 returns-2 c = c .before .before .flatten-composed .ensures
 
 pub flatten-spec : {M : Type 1} → statement M
-flatten-spec = tie.close (tie.spec (search needs) (search needs) (search needs) (search needs) (search needs) returns
-    (search needs) (search needs) (search needs) flatten-composed-requires (search needs) returns-2)
+flatten-spec = tie.close (tie.spec (λ c. search needs) (λ c. search needs) (λ c. search needs) (λ c. search needs) (λ c. search needs) returns
+    (λ c. search needs) (λ c. search needs) (λ c. search needs) flatten-composed-requires (λ c. search needs) returns-2)

@@ -23,5 +23,5 @@ returns c =
     )
 
 pub flatten-and-check-spec : {M : Type 1} → statement M
-flatten-and-check-spec = tie.close (tie.spec (search needs) (search needs) (search needs) part-bandrolt-check-table-end
-    (search needs) (search needs) returns)
+flatten-and-check-spec = tie.close (tie.spec (λ c. search needs) (λ c. search needs) (λ c. search needs) part-bandrolt-check-table-end
+    (λ c. search needs) (λ c. search needs) returns)

@@ -33,5 +33,5 @@ returns-2 c =
     (flattened (record { width = at-start .args .w; bytes = at-start .args .s .now }) (at-start .pre .1) (at-count-survivors .count-survivors .ensures) (at-record-width .record-width .ensures) (at-start .args .table .now) (at-if1 .if1 .left), table-written (record { width = at-start .args .w; bytes = at-start .args .s .now }) (at-start .pre .1) (at-count-survivors .count-survivors .ensures) (at-record-width .record-width .ensures) (at-start .args .table .now) (at-if1 .if1 .left) _ (at-write-all .write-all .ensures))
 
 pub flatten-composed-spec : {M : Type 1} → statement M
-flatten-composed-spec = tie.close (tie.spec count-survivors-requires record-width-requires mul-bytes (search needs)
-    returns write-all-requires (search needs) returns-2)
+flatten-composed-spec = tie.close (tie.spec count-survivors-requires record-width-requires mul-bytes (λ c. search needs)
+    returns write-all-requires (λ c. search needs) returns-2)

@@ -28,5 +28,5 @@ returns-2 c =
     name-written (record { width = at-start .args .w; bytes = at-start .args .s .now }) _ _ _ _ (at-if1 .if1 .left) (at-put-name .put-name .ensures)
 
 pub put-field-spec : {M : Type 1} → statement M
-put-field-spec = tie.close (tie.spec field-width-requires put-zeros-requires (search needs) returns put-name-requires
-    (search needs) returns-2)
+put-field-spec = tie.close (tie.spec field-width-requires put-zeros-requires (λ c. search needs) returns put-name-requires
+    (λ c. search needs) returns-2)

@@ -19,4 +19,4 @@ unfolding flatLength
 returns c = omega (arith, c .field-width .ensures)
 
 pub record-width-spec : {M : Type 1} → statement M
-record-width-spec = tie.close (tie.spec (search needs) mul-result add-result returns)
+record-width-spec = tie.close (tie.spec (λ c. search needs) mul-result add-result returns)

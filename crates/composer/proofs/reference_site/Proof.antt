@@ -13,5 +13,5 @@ returns-2 c =
     record { blank = λ z. absurd (at-if1 .if1 .left (at-cell .cell .ensures .0 ∙ z)); within = λ z. at-cell2 .cell2 .ensures .0 ∙ ap (λ (k : ℕ). getD (at-start .args .el .now) (5 * (k - 1) + 1) 0) (at-cell .cell .ensures .0); records = λ z. c .cell3 .ensures .0 ∙ ap (λ (k : ℕ). getD (at-start .args .el .now) (5 * (k - 1) + 0) 0) (at-cell .cell .ensures .0) }
 
 pub reference-site-spec : {M : Type 1} → statement M
-reference-site-spec = tie.close (tie.spec (search needs) (search needs) (λ c. search needs) (search needs)
-    (search needs) (search needs) (search needs) (search needs) (search needs) returns-2)
+reference-site-spec = tie.close (tie.spec (λ c. search needs) (λ c. search needs) (λ c. search needs) (λ c. search needs)
+    (λ c. search needs) (λ c. search needs) (λ c. search needs) (λ c. search needs) (λ c. search needs) returns-2)

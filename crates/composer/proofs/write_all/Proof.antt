@@ -18,5 +18,5 @@ write-table-requires c κs =
     (writer (at-start .pre .0) _ _ (at-fill-prefixes .fill-prefixes .ensures), at-start .pre .1)
 
 pub write-all-spec : {M : Type 1} → statement M
-write-all-spec = tie.close (tie.spec (search needs) (search needs) fill-prefixes-requires (search needs) (search needs)
-    write-table-requires (search needs) (λ c. search needs))
+write-all-spec = tie.close (tie.spec (λ c. search needs) (λ c. search needs) fill-prefixes-requires (λ c. search needs) (λ c. search needs)
+    write-table-requires (λ c. search needs) (λ c. search needs))

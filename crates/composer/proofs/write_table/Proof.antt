@@ -162,4 +162,4 @@ write-table-spec = tie.close (tie.spec Inv-loop μ-loop field-width-requires rec
     cell-requires mul-cell-2 cell-requires-2 mul-cell-3 cell-requires-3 cell-requires-4 reference-site-requires add-out
     add-out-2 shared-slice-read-out slice-write-out add-put-field put-field-requires add-put-field-2 add-put-field-3
     put-field-requires-2 add-put-field-4 add-put-field-5 add-put-field-6 put-field-requires-3 add-p add-e loop-less
-    loop-again add-e-2 (search needs) loop-again-2 same-length returns)
+    loop-again add-e-2 (λ c. search needs) loop-again-2 same-length returns)

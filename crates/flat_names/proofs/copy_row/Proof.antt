@@ -34,5 +34,5 @@ returns : tie.Need-returns Inv-loop μ-loop
 returns c = let i = c .before .loop .inv in let e : c .before .loop .k ≡ c .before .before .args .l = omega (arith, i .0) in rw e at (i .1 .is)
 
 pub copy-row-spec : {M : Type 1} → statement M
-copy-row-spec = tie.close (tie.spec Inv-loop μ-loop loop-holds (search needs) slice-read-pre (search needs)
-    slice-write-pre (search needs) (search needs) loop-again same-length returns)
+copy-row-spec = tie.close (tie.spec Inv-loop μ-loop loop-holds (λ c. search needs) slice-read-pre (λ c. search needs)
+    slice-write-pre (λ c. search needs) (λ c. search needs) loop-again same-length returns)

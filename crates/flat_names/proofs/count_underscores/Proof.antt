@@ -33,5 +33,5 @@ returns-2 c =
     counted (at-start .args .s .now) (at-start .args .a) (at-start .args .n) (at-loop .loop .k) (at-start .pre) (at-loop .loop .inv .0) (at-loop .loop .inv .1) (λ l. absurd (omega (arith, c .loop-test .left)))
 
 pub count-underscores-spec : {M : Type 1} → statement M
-count-underscores-spec = tie.close (tie.spec Inv-loop μ-loop loop-holds (search needs) (search needs) returns
-    (search needs) (search needs) loop-again returns-2)
+count-underscores-spec = tie.close (tie.spec Inv-loop μ-loop loop-holds (λ c. search needs) (λ c. search needs) returns
+    (λ c. search needs) (λ c. search needs) loop-again returns-2)

@@ -39,4 +39,4 @@ returns c =
 
 pub fewest-underscores-spec : {M : Type 1} → statement M
 fewest-underscores-spec = tie.close (tie.spec name-length-requires cell-requires cell-requires-2 longest-run-requires
-    longest-run-requires-2 (search needs) add-larger (search needs) returns)
+    longest-run-requires-2 (λ c. search needs) add-larger (λ c. search needs) returns)

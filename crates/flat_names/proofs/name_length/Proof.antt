@@ -9,5 +9,5 @@ returns : tie.Need-returns
 returns c = let at-start = c .before .before .before in name-cut (record { width = at-start .args .w; bytes = at-start .args .s .now }) (at-start .args .p) _ (c .unpadded .ensures)
 
 pub name-length-spec : {M : Type 1} → statement M
-name-length-spec = tie.close (tie.spec (search needs) (search needs) (search needs) (search needs) (search needs)
-    (search needs) returns)
+name-length-spec = tie.close (tie.spec (λ c. search needs) (λ c. search needs) (λ c. search needs) (λ c. search needs) (λ c. search needs)
+    (λ c. search needs) returns)

@@ -65,4 +65,4 @@ returns c =
 pub put-name-spec : {M : Type 1} → statement M
 put-name-spec = tie.close (tie.spec row-width-requires row-length-requires mul-put-bytes put-bytes-requires
     add-put-bytes add-put-bytes-2 put-bytes-requires-2 add-put-zeros add-put-zeros-2 sub-put-zeros put-zeros-requires
-    (search needs) returns)
+    (λ c. search needs) returns)

@@ -63,4 +63,4 @@ returns c =
 pub put-row-spec : {M : Type 1} → statement M
 put-row-spec = tie.close (tie.spec name-length-requires fewest-underscores-requires copy-row-requires add-put-bytes
     add-put-bytes-2 put-bytes-requires add-put-same add-put-same-2 put-same-requires add-result add-result-2
-    (search needs) returns)
+    (λ c. search needs) returns)

@@ -33,5 +33,5 @@ returns : tie.Need-returns Inv-loop μ-loop
 returns c = let i = c .before .loop .inv in let e : c .before .loop .k ≡ c .before .before .args .n = omega (arith, i .0) in rw e at (i .1 .is)
 
 pub put-same-spec : {M : Type 1} → statement M
-put-same-spec = tie.close (tie.spec Inv-loop μ-loop loop-holds add-out slice-write-out (search needs) (search needs)
+put-same-spec = tie.close (tie.spec Inv-loop μ-loop loop-holds add-out slice-write-out (λ c. search needs) (λ c. search needs)
     loop-again same-length returns)

@@ -8,4 +8,4 @@ returns : tie.Need-returns
 returns c = c .before .before .put-same .ensures
 
 pub put-zeros-spec : {M : Type 1} → statement M
-put-zeros-spec = tie.close (tie.spec (search needs) (search needs) returns)
+put-zeros-spec = tie.close (tie.spec (λ c. search needs) (λ c. search needs) returns)

@@ -40,6 +40,6 @@ returns-2 c =
     run-here (record { width = at-start .args .w; bytes = at-start .args .s .now }) (at-start .args .p) (at-start .args .m) (at-start .args .n) (at-start .pre .1 .1) (at-is-same .is-same .ensures) (not-false (at-is-same .is-same .result) (at-if1 .if1 .left)) (at-start .pre .0) _ (c .count-underscores .ensures)
 
 pub run-behind-spec : {M : Type 1} → statement M
-run-behind-spec = tie.close (tie.spec (search needs) (search needs) add-is-same (search needs) (search needs)
-    part-is-same-end add-is-same-2 (search needs) (search needs) part-is-same-end-2 (search needs) returns
+run-behind-spec = tie.close (tie.spec (λ c. search needs) (λ c. search needs) add-is-same (λ c. search needs) (λ c. search needs)
+    part-is-same-end add-is-same-2 (λ c. search needs) (λ c. search needs) part-is-same-end-2 (λ c. search needs) returns
     add-count-underscores sub-count-underscores count-underscores-requires returns-2)

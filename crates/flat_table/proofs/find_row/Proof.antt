@@ -15,4 +15,4 @@ returns : tie.Need-returns
 returns c = let s = c .before .before .before .before .before .before in let a = s .args in c .find .ensures ∙ ap foundOf (ap (λ (k : ℕ). scan (λ p. same (keyedName (a .keys .now) (a .table .now) (a .l) p) (k ∷ a .f .now)) (a .n)) (c .before .hash .ensures) ∙ scan-hashed (a .keys .now) (a .table .now) (a .l) (a .n) (s .pre .hashed) (a .f .now))
 
 pub find-row-spec : {M : Type 1} → statement M
-find-row-spec = tie.close (tie.spec (search needs) (λ c κs. search needs) returns)
+find-row-spec = tie.close (tie.spec (λ c. search needs) (λ c κs. search needs) returns)

@@ -22,5 +22,5 @@ returns-2 : tie.Need-returns-2
 returns-2 c = marked-one (c .before .before .pre .0) _ (c .before .before .pre .1) (c .if1 .left)
 
 pub enqueue-spec : {M : Type 1} → statement M
-enqueue-spec = tie.close (tie.spec (search needs) returns (search needs) (search needs) mul-queue slice-write-queue
-    add-result (search needs) (search needs) returns-2)
+enqueue-spec = tie.close (tie.spec (λ c. search needs) returns (λ c. search needs) (λ c. search needs) mul-queue slice-write-queue
+    add-result (λ c. search needs) (λ c. search needs) returns-2)

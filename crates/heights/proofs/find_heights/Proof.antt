@@ -20,5 +20,5 @@ returns-2 c =
     judged-cycle (at-start .pre) (at-settle .settle .ensures .0) (at-settle .settle .ensures .1 .no (at-if1 .if1 .left)) (c .first-cycle .ensures)
 
 pub find-heights-spec : {M : Type 1} → statement M
-find-heights-spec = tie.close (tie.spec (λ c κs. search needs) (search needs) returns first-cycle-requires (search needs)
+find-heights-spec = tie.close (tie.spec (λ c κs. search needs) (λ c. search needs) returns first-cycle-requires (λ c. search needs)
     returns-2)

@@ -58,6 +58,6 @@ returns c =
     search-end (at-loop .loop .inv) (at-start .pre .0) (c .loop-test .left) (at-start .pre .1)
 
 pub reaches-itself-spec : {M : Type 1} → statement M
-reaches-itself-spec = tie.close (tie.spec Inv-loop μ-loop (search needs) (search needs) expand-requires loop-holds
-    mul-wide array-read-wide (search needs) slice-aggregate-expand-3 slice-aggregate-expand-4 expand-requires-2 add-head
+reaches-itself-spec = tie.close (tie.spec Inv-loop μ-loop (λ c. search needs) (λ c. search needs) expand-requires loop-holds
+    mul-wide array-read-wide (λ c. search needs) slice-aggregate-expand-3 slice-aggregate-expand-4 expand-requires-2 add-head
     loop-less loop-again array-read-result returns)

@@ -21,4 +21,4 @@ returns-2 c =
     let pre = at-start .pre in let q = at-start .args .q in filled-answer (pre .0) q (pre .1 .0) (pre .1 .1) (at-field-at .field-at .ensures) (at-is-blank .is-blank .ensures) (at-if1 .if1 .left) (c .find-record .ensures)
 
 pub find-element-spec : {M : Type 1} → statement M
-find-element-spec = tie.close (tie.spec (search needs) (search needs) returns find-record-requires returns-2)
+find-element-spec = tie.close (tie.spec (λ c. search needs) (λ c. search needs) returns find-record-requires returns-2)

@@ -39,5 +39,5 @@ returns-3 c =
     let pre = at-start .pre in let e = sym (at-i .i .given .1) ∙ at-find .find .ensures in sought-other (pre .0) (pre .1) (at-tag .tag .ensures .0) (at-field-at .field-at .ensures) (at-key .key .ensures) e (cell-first (at-start .args .at .now) (at-i .i .given .0 .0) (at-cell .cell .ensures .0)) (c .if1 .left)
 
 pub find-record-spec : {M : Type 1} → statement M
-find-record-spec = tie.close (tie.spec (search needs) (search needs) (search needs) find-requires (search needs)
-    (search needs) returns cell-requires shared-slice-read-if1 (search needs) returns-2 returns-3)
+find-record-spec = tie.close (tie.spec (λ c. search needs) (λ c. search needs) (λ c. search needs) find-requires (λ c. search needs)
+    (λ c. search needs) returns cell-requires shared-slice-read-if1 (λ c. search needs) returns-2 returns-3)

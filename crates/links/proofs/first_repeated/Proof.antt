@@ -26,5 +26,5 @@ returns-2 c =
     let e = fault-four-some _ (at-start .pre) (found-some (sym (at-i .i .given .1) ∙ at-first-repeat .first-repeat .ensures)) in ap At (cell-first (at-start .args .at .now) (at-i .i .given .0 .0) (c .cell .ensures .0)) ∙ at-found (e .1)
 
 pub first-repeated-spec : {M : Type 1} → statement M
-first-repeated-spec = tie.close (tie.spec first-repeat-requires (search needs) (search needs) returns cell-requires
+first-repeated-spec = tie.close (tie.spec first-repeat-requires (λ c. search needs) (λ c. search needs) returns cell-requires
     returns-2)

@@ -17,5 +17,5 @@ returns c =
     let pre = at-start .pre in let e = at-enter-records .enter-records .ensures in (entered-room (e .1 .1) (e .1 .0) .1, record { narrow = pre .0 .shadowed .narrow; short = pre .0 .shadowed .short; formed = pre .1 .0; listed = e .0; entered = e .1 .1; indexes = index-built _ (e .1 .1) (e .1 .0) (at-build .build .ensures) })
 
 pub index-names-spec : {M : Type 1} → statement M
-index-names-spec = tie.close (tie.spec (λ c κs. search needs) build-requires (search needs) (search needs) (search needs)
-    (search needs) returns)
+index-names-spec = tie.close (tie.spec (λ c κs. search needs) build-requires (λ c. search needs) (λ c. search needs) (λ c. search needs)
+    (λ c. search needs) returns)

@@ -31,6 +31,6 @@ returns-3 c =
     (c .refuse3 .ensures ∙ (no-rows ∙ (row-miss 5 _ _ (sym (at-enum-told2 .enum-told2 .given .1) ∙ at-link-records .link-records .ensures .0) ∙ row-miss 4 _ _ (sym (at-enum-told .enum-told .given .1) ∙ at-first-repeated .first-repeated .ensures))), λ z. at-name-targets .name-targets .ensures)
 
 pub judge-names-spec : {M : Type 1} → statement M
-judge-names-spec = tie.close (tie.spec (λ c κs. search needs) (search needs) (search needs) returns (search needs)
-    link-records-requires (search needs) (search needs) (search needs) returns-2 (search needs) name-targets-requires
-    (search needs) (search needs) returns-3)
+judge-names-spec = tie.close (tie.spec (λ c κs. search needs) (λ c. search needs) (λ c. search needs) returns (λ c. search needs)
+    link-records-requires (λ c. search needs) (λ c. search needs) (λ c. search needs) returns-2 (λ c. search needs) name-targets-requires
+    (λ c. search needs) (λ c. search needs) returns-3)

@@ -41,4 +41,4 @@ returns c =
 
 pub key-at-spec : {M : Type 1} → statement M
 key-at-spec = tie.close (tie.spec cell-requires shared-slice-read-tag tag-requires add-field-at field-at-requires
-    (search needs) returns)
+    (λ c. search needs) returns)

@@ -25,4 +25,4 @@ returns-2 c =
     let pre = at-start .pre in let a = at-start .args in let R : Recipe = record { width = a .w; bytes = a .s .now } in let x = pre .0 in let p = a .h .place in let i = x .placed in let h₃ = x .named .indexed .formed in let k = pre .1 .0 in let b = pre .1 .1 .1 in let h = port-points R p k in let w = way-element R p i (sym (at-target .target .given .1) ∙ target-way R p i (pre .1 .1 .0)) in let u = target-at-field R p i h (w .1) in by-element-links R p k b (w .0) (x .held) u (c .find-record .ensures)
 
 pub link-own-port-spec : {M : Type 1} → statement M
-link-own-port-spec = tie.close (tie.spec (search needs) (search needs) returns find-record-requires returns-2)
+link-own-port-spec = tie.close (tie.spec (λ c. search needs) (λ c. search needs) returns find-record-requires returns-2)

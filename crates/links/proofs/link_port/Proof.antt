@@ -23,5 +23,5 @@ link-pointer-requires c κs =
     let pre = at-start .pre in let a = at-start .args in let R : Recipe = record { width = a .w; bytes = a .s .now } in let x = pre .0 in let p = a .h .place in let u = submodel-at R p (x .placed) (port-points R p (pre .1 .0)) (port-begins R p (pre .1 .1)) in (x, port-unowned R p (pre .1 .0) (pre .1 .1) (blank-at u (at-field-at .field-at .ensures) (at-is-blank .is-blank .ensures) (c .if1 .left)))
 
 pub link-port-spec : {M : Type 1} → statement M
-link-port-spec = tie.close (tie.spec field-at-requires (search needs) link-own-port-requires (λ c. search needs)
+link-port-spec = tie.close (tie.spec field-at-requires (λ c. search needs) link-own-port-requires (λ c. search needs)
     link-pointer-requires (λ c. search needs))

@@ -57,8 +57,8 @@ returns-2 c =
     let x = at-start .pre in let a = at-start .args in let R : Recipe = record { width = a .w; bytes = a .s .now } in let p = a .h .place in let i = x .placed in let e = sym (at-r .r .given .1 ∙ ap As (c .enum-told2 .given .1)) ∙ at-read-record .read-record .ensures in model-links R p (read-right R p i e)
 
 pub link-record-spec : {M : Type 1} → statement M
-link-record-spec = tie.close (tie.spec read-record-requires (search needs) (search needs) returns (search needs)
-    (search needs) link-element-requires (search needs) link-port-requires (search needs) link-submodel-requires
-    (search needs) link-pointer-requires (search needs) link-owned-requires (search needs) link-owned-requires-2
+link-record-spec = tie.close (tie.spec read-record-requires (λ c. search needs) (λ c. search needs) returns (λ c. search needs)
+    (λ c. search needs) link-element-requires (λ c. search needs) link-port-requires (λ c. search needs) link-submodel-requires
+    (λ c. search needs) link-pointer-requires (λ c. search needs) link-owned-requires (λ c. search needs) link-owned-requires-2
     returns-2 (λ c. search needs) (λ c. search needs) (λ c. search needs) (λ c. search needs) (λ c. search needs)
     (λ c. search needs))

@@ -94,5 +94,5 @@ returns-2 c =
 
 pub link-records-spec : {M : Type 1} → statement M
 link-records-spec = tie.close (tie.spec Inv-loop μ-loop loop-holds cell-requires link-record-requires same-length
-    returns (search needs) set-cell-requires (search needs) set-cell-requires-2 (search needs) set-cell-requires-3
+    returns (λ c. search needs) set-cell-requires (λ c. search needs) set-cell-requires-2 (λ c. search needs) set-cell-requires-3
     shared-slice-read-record-length record-length-requires add-p loop-less loop-again same-length-2 returns-2)

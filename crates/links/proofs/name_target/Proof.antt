@@ -85,6 +85,6 @@ returns-3 c =
     let pre = at-start .pre in let a = at-start .args in let R : Recipe = record { width = a .w; bytes = a .s .now } in let g = pre .1 .0 in let p = a .p in let i = pre .1 .1 in let h = pointer-byte R p ∙ (sym (at-is-pointer .is-pointer .ensures) ∙ not-false _ (at-if1 .if1 .left)) in target-written g p i (pre .0 .indexed .formed) h (at-cell .cell .ensures .0) (at-if2 .if2 .left) (at-submodel-offset .submodel-offset .ensures) (at-cell2 .cell2 .ensures .0) (at-find-record .find-record .ensures) (at-wide .wide .ensures .0) (at-set-cell .set-cell .ensures)
 
 pub name-target-spec : {M : Type 1} → statement M
-name-target-spec = tie.close (tie.spec shared-slice-read-k (search needs) returns cell-requires (search needs) returns-2
+name-target-spec = tie.close (tie.spec shared-slice-read-k (λ c. search needs) returns cell-requires (λ c. search needs) returns-2
     add-way submodel-offset-requires add-way-2 add-way-3 shared-slice-read-t15 add-t24 cell-requires-2 add-t21
-    find-record-requires (search needs) set-cell-requires (search needs) returns-3)
+    find-record-requires (λ c. search needs) set-cell-requires (λ c. search needs) returns-3)

@@ -34,5 +34,5 @@ returns-2 c =
     let pre = at-start .pre in let a = at-start .args in let R : Recipe = record { width = a .w; bytes = a .s .now } in let g = parent-at R (a .p) (pre .0) (pre .1 .0) (pre .1 .1 .0) in let k = class-is R (a .p) (pre .0) (pre .1 .0) (pre .1 .1 .0) in let ea = pre .1 .1 .1 in parent-there R (a .p) g k ea (at-if1 .if1 .left) (at-wide .wide .ensures .0) (c .parent-allowed .ensures)
 
 pub parent-fault-spec : {M : Type 1} → statement M
-parent-fault-spec = tie.close (tie.spec field-at-requires (search needs) (search needs) returns (search needs)
-    (search needs) add-parent-allowed-2 shared-slice-read-parent-allowed (search needs) returns-2)
+parent-fault-spec = tie.close (tie.spec field-at-requires (λ c. search needs) (λ c. search needs) returns (λ c. search needs)
+    (λ c. search needs) add-parent-allowed-2 shared-slice-read-parent-allowed (λ c. search needs) returns-2)

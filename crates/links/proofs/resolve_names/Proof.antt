@@ -16,6 +16,6 @@ slice-aggregate-judge-names c =
     sym (length-take-le (at-index-names .index-names .result) (at-index-names .index-names .last .1 .1 .1 .0) (omega (arith, at-index-names .index-names .ensures .0, at-at2 .at2 .given)))
 
 pub resolve-names-spec : {M : Type 1} → statement M
-resolve-names-spec = tie.close (tie.spec (search needs) (search needs) (search needs) (search needs)
-    index-names-requires (search needs) slice-aggregate-judge-names (search needs) (search needs) (search needs)
-    (λ c κs. search needs) (search needs) (λ c. search needs))
+resolve-names-spec = tie.close (tie.spec (λ c. search needs) (λ c. search needs) (λ c. search needs) (λ c. search needs)
+    index-names-requires (λ c. search needs) slice-aggregate-judge-names (λ c. search needs) (λ c. search needs) (λ c. search needs)
+    (λ c κs. search needs) (λ c. search needs) (λ c. search needs))

@@ -37,5 +37,5 @@ returns-5 c =
     (rw (ne-eqb _ _ (at-if1 .if1 .left), sym (at-is-port .is-port .ensures) ∙ at-if2 .if2 .left, sym (at-is-replaced-by .is-replaced-by .ensures) ∙ at-if3 .if3 .left, at-if4 .if4 .left) (c .space4 .ensures .0), c .space4 .ensures .1)
 
 pub tag-spec : {M : Type 1} → statement M
-tag-spec = tie.close (tie.spec returns (search needs) (search needs) returns-2 (search needs) (search needs) returns-3
-    (search needs) returns-4 (search needs) returns-5)
+tag-spec = tie.close (tie.spec returns (λ c. search needs) (λ c. search needs) returns-2 (λ c. search needs) (λ c. search needs) returns-3
+    (λ c. search needs) returns-4 (λ c. search needs) returns-5)

@@ -83,5 +83,5 @@ returns-2 c =
 
 pub aims-at-gone-spec : {M : Type 1} → statement M
 aims-at-gone-spec = tie.close (tie.spec Inv-loop μ-loop cell-requires cell-requires-2 cell-requires-3 loop-holds
-    (search needs) mul-row cell-requires-4 add-cell mul-cell cell-requires-5 returns cell-requires-6 loop-less
+    (λ c. search needs) mul-row cell-requires-4 add-cell mul-cell cell-requires-5 returns cell-requires-6 loop-less
     loop-again returns-2)

@@ -29,5 +29,5 @@ returns-2 : tie.Need-returns-2 Inv-loop μ-loop
 returns-2 c = sym (c .before .loop .inv .1 ∙ any-end _ _ _ (omega arith))
 
 pub any-set-spec : {M : Type 1} → statement M
-any-set-spec = tie.close (tie.spec Inv-loop μ-loop loop-holds (search needs) returns (search needs) (search needs)
-    (search needs) loop-again returns-2)
+any-set-spec = tie.close (tie.spec Inv-loop μ-loop loop-holds (λ c. search needs) returns (λ c. search needs) (λ c. search needs)
+    (λ c. search needs) loop-again returns-2)

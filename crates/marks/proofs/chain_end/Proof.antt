@@ -37,5 +37,5 @@ returns-2 : tie.Need-returns-2 Inv-loop μ-loop
 returns-2 c = sym (c .before .loop .inv .0 ∙ follow-last (c .before .before .before .args .el .now) (c .before .loop .n) (c .loop-test .left))
 
 pub chain-end-spec : {M : Type 1} → statement M
-chain-end-spec = tie.close (tie.spec Inv-loop μ-loop loop-holds mul-cell cell-requires returns (search needs)
-    (search needs) (search needs) loop-again returns-2)
+chain-end-spec = tie.close (tie.spec Inv-loop μ-loop loop-holds mul-cell cell-requires returns (λ c. search needs)
+    (λ c. search needs) (λ c. search needs) loop-again returns-2)

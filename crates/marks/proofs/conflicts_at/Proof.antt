@@ -93,5 +93,5 @@ returns-2 c =
 
 pub conflicts-at-spec : {M : Type 1} → statement M
 conflicts-at-spec = tie.close (tie.spec Inv-loop μ-loop shared-slice-read-k cell-requires owner-order-requires
-    cell-requires-2 cell-requires-3 loop-holds (search needs) mul-row cell-requires-4 cell-requires-5 add-meets-any
+    cell-requires-2 cell-requires-3 loop-holds (λ c. search needs) mul-row cell-requires-4 cell-requires-5 add-meets-any
     add-meets-any-2 meets-any-requires returns cell-requires-6 loop-less loop-again returns-2)

@@ -76,5 +76,5 @@ returns c =
 
 pub elements-at-spec : {M : Type 1} → statement M
 elements-at-spec = tie.close (tie.spec Inv-loop μ-loop cell-requires cell-requires-2 cell-requires-3 loop-holds
-    (search needs) mul-row cell-requires-4 add-put-element put-element-requires cell-requires-5 loop-less loop-again
+    (λ c. search needs) mul-row cell-requires-4 add-put-element put-element-requires cell-requires-5 loop-less loop-again
     same-length returns)

@@ -89,5 +89,5 @@ returns c =
 
 pub enter-at-spec : {M : Type 1} → statement M
 enter-at-spec = tie.close (tie.spec Inv-loop μ-loop shared-slice-read-k cell-requires owner-order-requires
-    cell-requires-2 cell-requires-3 loop-holds (search needs) mul-row cell-requires-4 cell-requires-5 add-stamp
+    cell-requires-2 cell-requires-3 loop-holds (λ c. search needs) mul-row cell-requires-4 cell-requires-5 add-stamp
     add-stamp-2 stamp-requires cell-requires-6 loop-less loop-again same-length returns)

@@ -73,5 +73,5 @@ returns c =
     (went-all (record { width = at-start .args .w; bytes = at-start .args .s .now }) ((at-start .pre .0) .planted .measured .linked .row₄) ((at-start .pre .0) .planted .measured .linked .row₅) ((at-start .pre .0) .planted .row₇) ((at-start .pre .0) .aimed .row₈) (at-start .pre .1 .0) (at-loop .loop .el) (along-all (record { width = at-start .args .w; bytes = at-start .args .s .now }) (isOwned (record { width = at-start .args .w; bytes = at-start .args .s .now })) (λ D. Went (record { width = at-start .args .w; bytes = at-start .args .s .now }) D (at-loop .loop .el)) (went-same (record { width = at-start .args .w; bytes = at-start .args .s .now }) (at-loop .loop .el)) (at-loop .loop .p) (c .loop-test .left) (at-loop .loop .inv .1 .1 .0)), at-loop .loop .inv .1 .1 .1)
 
 pub fill-steps-spec : {M : Type 1} → statement M
-fill-steps-spec = tie.close (tie.spec Inv-loop μ-loop loop-holds (search needs) record-length-requires add-next
-    (search needs) steps-at-requires loop-less loop-again loop-less-2 loop-again-2 same-length returns)
+fill-steps-spec = tie.close (tie.spec Inv-loop μ-loop loop-holds (λ c. search needs) record-length-requires add-next
+    (λ c. search needs) steps-at-requires loop-less loop-again loop-less-2 loop-again-2 same-length returns)

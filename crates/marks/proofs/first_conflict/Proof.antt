@@ -95,6 +95,6 @@ returns-2 c =
     (nothing-found (going-end (at-loop .loop .inv .1 .0) (c .loop-test .left)), λ z. (along-all (record { width = at-start .args .w; bytes = at-start .args .s .now }) (isPointer (record { width = at-start .args .w; bytes = at-start .args .s .now })) (λ D. Stamped (record { width = at-start .args .w; bytes = at-start .args .s .now }) D (at-loop .loop .cells)) (stamped-same (record { width = at-start .args .w; bytes = at-start .args .s .now }) (at-loop .loop .cells)) (at-loop .loop .p) (c .loop-test .left) (at-loop .loop .inv .1 .1 .0), at-loop .loop .inv .1 .1 .1))
 
 pub first-conflict-spec : {M : Type 1} → statement M
-first-conflict-spec = tie.close (tie.spec Inv-loop μ-loop loop-holds (search needs) record-length-requires add-next
-    (search needs) conflicts-at-requires same-length returns enter-at-requires loop-less loop-again loop-less-2
+first-conflict-spec = tie.close (tie.spec Inv-loop μ-loop loop-holds (λ c. search needs) record-length-requires add-next
+    (λ c. search needs) conflicts-at-requires same-length returns enter-at-requires loop-less loop-again loop-less-2
     loop-again-2 same-length-2 returns-2)

@@ -68,5 +68,5 @@ unfolding fault₁₁
 returns-2 c = nothing-found (going-end (c .before .loop .inv .1) (c .loop-test .left))
 
 pub first-lost-spec : {M : Type 1} → statement M
-first-lost-spec = tie.close (tie.spec Inv-loop μ-loop loop-holds (search needs) record-length-requires add-next
-    (search needs) aims-at-gone-requires returns loop-less loop-again loop-less-2 loop-again-2 returns-2)
+first-lost-spec = tie.close (tie.spec Inv-loop μ-loop loop-holds (λ c. search needs) record-length-requires add-next
+    (λ c. search needs) aims-at-gone-requires returns loop-less loop-again loop-less-2 loop-again-2 returns-2)

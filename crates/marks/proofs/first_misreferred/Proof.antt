@@ -96,7 +96,7 @@ returns-2 c =
     (nothing-found (lowest-none (at-loop .loop .inv .1 .0) (λ x i. omega (arith, number-low (record { width = at-start .args .w; bytes = at-start .args .s .now }) ((at-start .pre .0) .row₇) x (survivor (record { width = at-start .args .w; bytes = at-start .args .s .now }) x i .0), (at-start .pre .1 .1 .1 .1), at-loop-test .loop-test .left)) (c .if3 .left)), (filled-end (record { width = at-start .args .w; bytes = at-start .args .s .now }) (survivors (record { width = at-start .args .w; bytes = at-start .args .s .now })) 4 (endOf (record { width = at-start .args .w; bytes = at-start .args .s .now })) (at-loop .loop .el) (at-loop .loop .e) (λ x i. omega (arith, number-low (record { width = at-start .args .w; bytes = at-start .args .s .now }) ((at-start .pre .0) .row₇) x (survivor (record { width = at-start .args .w; bytes = at-start .args .s .now }) x i .0), (at-start .pre .1 .1 .1 .1), at-loop-test .loop-test .left)) (at-loop .loop .inv .1 .1 .1), at-loop .loop .inv .1 .1 .0))
 
 pub first-misreferred-spec : {M : Type 1} → statement M
-first-misreferred-spec = tie.close (tie.spec Inv-loop μ-loop loop-holds mul-cell cell-requires (search needs)
-    (search needs) loop-again mul-cell-2 cell-requires-2 reference-end-requires mul-set-cell set-cell-requires
-    refers-wrongly-requires (search needs) (search needs) loop-again-2 (search needs) (search needs) loop-again-3
+first-misreferred-spec = tie.close (tie.spec Inv-loop μ-loop loop-holds mul-cell cell-requires (λ c. search needs)
+    (λ c. search needs) loop-again mul-cell-2 cell-requires-2 reference-end-requires mul-set-cell set-cell-requires
+    refers-wrongly-requires (λ c. search needs) (λ c. search needs) loop-again-2 (λ c. search needs) (λ c. search needs) loop-again-3
     same-length returns same-length-2 returns-2)

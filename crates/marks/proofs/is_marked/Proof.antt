@@ -11,4 +11,4 @@ unfolding ownerCell goneCell
 returns c = refl
 
 pub is-marked-spec : {M : Type 1} → statement M
-is-marked-spec = tie.close (tie.spec (search needs) (search needs) (search needs) (search needs) (search needs) returns)
+is-marked-spec = tie.close (tie.spec (λ c. search needs) (λ c. search needs) (λ c. search needs) (λ c. search needs) (λ c. search needs) returns)

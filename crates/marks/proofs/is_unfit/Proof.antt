@@ -36,4 +36,4 @@ returns c =
 
 pub is-unfit-spec : {M : Type 1} → statement M
 is-unfit-spec = tie.close (tie.spec mul-cell cell-requires mul-cell-2 cell-requires-2 add-reference-allowed
-    add-reference-allowed-2 shared-slice-read-reference-allowed (search needs) returns)
+    add-reference-allowed-2 shared-slice-read-reference-allowed (λ c. search needs) returns)

@@ -62,8 +62,8 @@ returns-5 c =
     (c .refuse5 .ensures ∙ (no-rows ∙ (row-miss 12 _ _ (sym (at-enum-told4 .enum-told4 .given .1) ∙ at-first-misreferred .first-misreferred .ensures .0) ∙ (row-miss 11 _ _ (sym (at-enum-told3 .enum-told3 .given .1) ∙ at-first-lost .first-lost .ensures) ∙ (row-miss 10 _ _ (sym (at-enum-told2 .enum-told2 .given .1) ∙ at-first-misclassed .first-misclassed .ensures) ∙ row-miss 9 _ _ (sym (at-enum-told .enum-told .given .1) ∙ at-first-conflict .first-conflict .ensures .0))))), λ z. composed (at-start .pre .0) (at-start .args .el .now) _ (at-start .pre .1 .1) (at-list-elements .list-elements .ensures .1) (at-list-elements .list-elements .ensures .0) _ (at-mark-gone .mark-gone .ensures .1) (at-mark-gone .mark-gone .ensures .0) _ (at-fill-steps .fill-steps .ensures .1) _ (found-nothing (sym (at-enum-told .enum-told .given .1) ∙ at-first-conflict .first-conflict .ensures .0)) (found-nothing (sym (at-enum-told2 .enum-told2 .given .1) ∙ at-first-misclassed .first-misclassed .ensures)) (found-nothing (sym (at-enum-told3 .enum-told3 .given .1) ∙ at-first-lost .first-lost .ensures)) (found-nothing (sym (at-enum-told4 .enum-told4 .given .1) ∙ at-first-misreferred .first-misreferred .ensures .0)) (at-start .pre .1 .0) (at-fill-steps .fill-steps .ensures .0) (at-first-misreferred .first-misreferred .ensures .1 .0) (at-first-misreferred .first-misreferred .ensures .1 .1))
 
 pub judge-marks-spec : {M : Type 1} → statement M
-judge-marks-spec = tie.close (tie.spec (search needs) first-conflict-requires (search needs) (search needs) returns
-    (search needs) first-misclassed-requires (search needs) (search needs) returns-2 (search needs)
-    list-elements-requires (search needs) mark-gone-requires first-lost-requires (search needs) (search needs)
-    (search needs) returns-3 (search needs) fill-steps-requires first-misreferred-requires (search needs) (search needs)
-    (search needs) returns-4 (search needs) (search needs) (search needs) returns-5)
+judge-marks-spec = tie.close (tie.spec (λ c. search needs) first-conflict-requires (λ c. search needs) (λ c. search needs) returns
+    (λ c. search needs) first-misclassed-requires (λ c. search needs) (λ c. search needs) returns-2 (λ c. search needs)
+    list-elements-requires (λ c. search needs) mark-gone-requires first-lost-requires (λ c. search needs) (λ c. search needs)
+    (λ c. search needs) returns-3 (λ c. search needs) fill-steps-requires first-misreferred-requires (λ c. search needs) (λ c. search needs)
+    (λ c. search needs) returns-4 (λ c. search needs) (λ c. search needs) (λ c. search needs) returns-5)

@@ -71,5 +71,5 @@ returns c =
     (along-all (record { width = at-start .args .w; bytes = at-start .args .s .now }) (isElement (record { width = at-start .args .w; bytes = at-start .args .s .now })) (λ D. Listed (record { width = at-start .args .w; bytes = at-start .args .s .now }) D (at-loop .loop .el)) (listed-same (record { width = at-start .args .w; bytes = at-start .args .s .now }) (at-loop .loop .el)) (at-loop .loop .p) (c .loop-test .left) (at-loop .loop .inv .1 .1 .0), at-loop .loop .inv .1 .1 .1)
 
 pub list-elements-spec : {M : Type 1} → statement M
-list-elements-spec = tie.close (tie.spec Inv-loop μ-loop loop-holds (search needs) record-length-requires add-next
+list-elements-spec = tie.close (tie.spec Inv-loop μ-loop loop-holds (λ c. search needs) record-length-requires add-next
     elements-at-requires loop-less loop-again loop-less-2 loop-again-2 same-length returns)

@@ -78,5 +78,5 @@ returns c =
 
 pub mark-gone-spec : {M : Type 1} → statement M
 mark-gone-spec = tie.close (tie.spec Inv-loop μ-loop loop-holds mul-cell cell-requires is-gone-requires mul-set-cell
-    set-cell-requires (search needs) (search needs) loop-again mul-set-cell-2 set-cell-requires-2 (search needs)
-    (search needs) loop-again-2 same-length returns)
+    set-cell-requires (λ c. search needs) (λ c. search needs) loop-again mul-set-cell-2 set-cell-requires-2 (λ c. search needs)
+    (λ c. search needs) loop-again-2 same-length returns)

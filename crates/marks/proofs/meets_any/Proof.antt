@@ -48,6 +48,6 @@ returns-6 c =
     meets-no _ (at-start .args .k) _ _ _ (sym (at-is-port .is-port .ensures) ∙ at-if1 .if1 .left) (sym (at-is-mark .is-mark .ensures) ∙ not-false (at-is-mark .is-mark .result) (at-if3 .if3 .left)) (sym (at-is-replaced-by .is-replaced-by .ensures) ∙ c .if5 .left) (at-any-set3 .any-set3 .ensures) (at-if4 .if4 .left)
 
 pub meets-any-spec : {M : Type 1} → statement M
-meets-any-spec = tie.close (tie.spec (search needs) (search needs) (search needs) (search needs) returns (search needs)
-    (search needs) (search needs) (search needs) returns-2 (search needs) returns-3 (search needs) (search needs)
-    (search needs) returns-4 (search needs) mul-any-set-4 add-any-set-4 any-set-requires-4 returns-5 returns-6)
+meets-any-spec = tie.close (tie.spec (λ c. search needs) (λ c. search needs) (λ c. search needs) (λ c. search needs) returns (λ c. search needs)
+    (λ c. search needs) (λ c. search needs) (λ c. search needs) returns-2 (λ c. search needs) returns-3 (λ c. search needs) (λ c. search needs)
+    (λ c. search needs) returns-4 (λ c. search needs) mul-any-set-4 add-any-set-4 any-set-requires-4 returns-5 returns-6)

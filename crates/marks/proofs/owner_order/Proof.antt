@@ -22,4 +22,4 @@ returns-2 : tie.Need-returns-2
 returns-2 c = (λ h. c .cell2 .ensures .0 ∙ ap (λ (z : ℕ). getD (c .before .before .before .before .before .args .t .now) (z + 1) 0) (c .before .cell .ensures .0), c .cell2 .ensures .1)
 
 pub owner-order-spec : {M : Type 1} → statement M
-owner-order-spec = tie.close (tie.spec (search needs) returns (search needs) cell-requires-2 returns-2)
+owner-order-spec = tie.close (tie.spec (λ c. search needs) returns (λ c. search needs) cell-requires-2 returns-2)

@@ -11,5 +11,5 @@ returns c =
     at-set-cell3 .set-cell3 .ensures ∙ rw (at-set-cell2 .set-cell2 .ensures, at-set-cell .set-cell .ensures)
 
 pub put-element-spec : {M : Type 1} → statement M
-put-element-spec = tie.close (tie.spec (search needs) (search needs) (search needs) (search needs) (search needs)
-    (search needs) (search needs) returns)
+put-element-spec = tie.close (tie.spec (λ c. search needs) (λ c. search needs) (λ c. search needs) (λ c. search needs) (λ c. search needs)
+    (λ c. search needs) (λ c. search needs) returns)

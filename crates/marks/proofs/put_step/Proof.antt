@@ -16,5 +16,5 @@ returns-2 c =
     rw (sym (at-is-replaced-by .is-replaced-by .ensures) ∙ at-if1 .if1 .left) (at-set-cell2 .set-cell2 .ensures)
 
 pub put-step-spec : {M : Type 1} → statement M
-put-step-spec = tie.close (tie.spec (search needs) (search needs) (search needs) (search needs) (search needs) returns
-    (search needs) (search needs) (search needs) (search needs) returns-2)
+put-step-spec = tie.close (tie.spec (λ c. search needs) (λ c. search needs) (λ c. search needs) (λ c. search needs) (λ c. search needs) returns
+    (λ c. search needs) (λ c. search needs) (λ c. search needs) (λ c. search needs) returns-2)

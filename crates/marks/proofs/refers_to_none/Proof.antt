@@ -46,5 +46,5 @@ returns c =
     let a = at-start .args in c .is-blank .ensures ∙ ap isBlank (field-is (a .w) (a .s .now) (a .p + 1 + (a .w + (1 + a .w))) ∙ reference-is (record { width = at-start .args .w; bytes = at-start .args .s .now }) (a .p))
 
 pub refers-to-none-spec : {M : Type 1} → statement M
-refers-to-none-spec = tie.close (tie.spec add-a add-a-2 add-a-3 add-a-4 add-b (search needs) (search needs)
-    part-is-blank-end (search needs) returns)
+refers-to-none-spec = tie.close (tie.spec add-a add-a-2 add-a-3 add-a-4 add-b (λ c. search needs) (λ c. search needs)
+    part-is-blank-end (λ c. search needs) returns)

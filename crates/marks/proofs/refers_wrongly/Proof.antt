@@ -49,4 +49,4 @@ returns-3 c =
 
 pub refers-wrongly-spec : {M : Type 1} → statement M
 refers-wrongly-spec = tie.close (tie.spec mul-cell cell-requires add-c add-c-2 shared-slice-read-c
-    refers-to-none-requires (search needs) returns returns-2 (search needs) is-unfit-requires returns-3)
+    refers-to-none-requires (λ c. search needs) returns returns-2 (λ c. search needs) is-unfit-requires returns-3)

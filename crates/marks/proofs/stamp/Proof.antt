@@ -37,7 +37,7 @@ returns-4 c =
     stamped-other _ (at-start .args .k) _ _ _ (sym (at-is-port .is-port .ensures) ∙ at-if1 .if1 .left) (sym (at-is-mark .is-mark .ensures) ∙ not-false (at-is-mark .is-mark .result) (at-if2 .if2 .left)) (sym (at-is-replaced-by .is-replaced-by .ensures) ∙ c .if3 .left)
 
 pub stamp-spec : {M : Type 1} → statement M
-stamp-spec = tie.close (tie.spec (search needs) (search needs) (search needs) (search needs) (search needs)
-    (search needs) returns (search needs) returns-2 (search needs) (search needs) (search needs) (search needs)
-    (search needs) mul-cells-3 slice-write-cells-3 (search needs) returns-3 (search needs) (search needs)
-    slice-write-cells-4 (search needs) returns-4)
+stamp-spec = tie.close (tie.spec (λ c. search needs) (λ c. search needs) (λ c. search needs) (λ c. search needs) (λ c. search needs)
+    (λ c. search needs) returns (λ c. search needs) returns-2 (λ c. search needs) (λ c. search needs) (λ c. search needs) (λ c. search needs)
+    (λ c. search needs) mul-cells-3 slice-write-cells-3 (λ c. search needs) returns-3 (λ c. search needs) (λ c. search needs)
+    slice-write-cells-4 (λ c. search needs) returns-4)

@@ -87,5 +87,5 @@ returns c =
 
 pub steps-at-spec : {M : Type 1} → statement M
 steps-at-spec = tie.close (tie.spec Inv-loop μ-loop shared-slice-read-k cell-requires owner-order-requires
-    cell-requires-2 cell-requires-3 loop-holds (search needs) mul-row cell-requires-4 add-put-step add-put-step-2
+    cell-requires-2 cell-requires-3 loop-holds (λ c. search needs) mul-row cell-requires-4 add-put-step add-put-step-2
     put-step-requires cell-requires-5 loop-less loop-again same-length returns)

@@ -62,7 +62,7 @@ module _ (t : ℕ) where
   returns-4 c = let s = c .before .before .before .before .before .before .before .before .before .before .before .before .before .before .before .before .before .before .before .before .before .before .before .before .before .before .before .before .before in let xs = s .args .index .now in let h = length xs / 2 in let f = c .before .before .before .before .before .before .before .before .before .before .before .before .before .before .before .before .before .before .before .before .before .before .before .before .if1 .left in halves-sorted _ (s .args .from) h xs (c .before .before .before .before .before .before .before .before .before .before .before .before .before .before .before .before .before .before .before .before .before .sort .last .1 .1 .1 .1 .1 .0) (c .before .before .before .before .before .before .before .before .before .before .before .before .before .before .sort2 .last .1 .1 .1 .1 .1 .0) (omega arith) (c .before .before .before .before .before .before .before .before .before .before .before .before .before .before .before .before .before .before .before .before .before .sort .ensures) (c .before .before .before .before .before .before .before .before .before .before .before .before .before .before .sort2 .ensures) _ (c .before .before .before .before .merge-back .ensures)
 
 pub +sort-spec : {M : Type 1} → statement M
-+sort-spec = close μ-sort λ t. sort-lts.spec (calls t) (sort-at t) sort.Post (search needs) (search needs) (search needs)
-    (returns t) (returns-2 t) (search needs) (slice-aggregate-sort t) (sort-requires t) (search needs) (search needs)
-    (search needs) (search needs) (search needs) (search needs) (runs-overlap-requires t) (same-length-2 t) (search needs)
-    (returns-3 t) (merge-back-requires t) (search needs) (search needs) (returns-4 t)
++sort-spec = close μ-sort λ t. sort-lts.spec (calls t) (sort-at t) sort.Post (λ c. search needs) (λ c. search needs) (λ c. search needs)
+    (returns t) (returns-2 t) (λ c. search needs) (slice-aggregate-sort t) (sort-requires t) (λ c. search needs) (λ c. search needs)
+    (λ c. search needs) (λ c. search needs) (λ c. search needs) (λ c. search needs) (runs-overlap-requires t) (same-length-2 t) (λ c. search needs)
+    (returns-3 t) (merge-back-requires t) (λ c. search needs) (λ c. search needs) (returns-4 t)

@@ -23,5 +23,5 @@ returns c =
     let s = at-place in ap (λ (y : List ℕ). y ++ drop (s .args .n) (s .args .index .now)) (at-sort .sort .ensures ∙ ap (ordered (keyedName (s .args .keys .now) (s .args .bytes .now) (s .args .l)) 0) (length-take-le (s .args .n) (s .args .index .now) (s .pre .1 .0)))
 
 pub build-spec : {M : Type 1} → statement M
-build-spec = tie.close (tie.spec (search needs) slice-aggregate-sort (search needs) sort-requires (search needs)
+build-spec = tie.close (tie.spec (λ c. search needs) slice-aggregate-sort (λ c. search needs) sort-requires (λ c. search needs)
     returns)

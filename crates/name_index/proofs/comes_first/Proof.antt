@@ -14,4 +14,4 @@ returns-2 : tie.Need-returns-2
 returns-2 c = c .comes-before .ensures ∙ (before-eq (c .before .name-at .ensures) refl ∙ before-name _ _ (c .before .before .if1 .left))
 
 pub comes-first-spec : {M : Type 1} → statement M
-comes-first-spec = tie.close (tie.spec (search needs) (search needs) returns (search needs) (search needs) returns-2)
+comes-first-spec = tie.close (tie.spec (λ c. search needs) (λ c. search needs) returns (λ c. search needs) (λ c. search needs) returns-2)

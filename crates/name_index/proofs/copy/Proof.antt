@@ -25,5 +25,5 @@ returns : tie.Need-returns Inv-loop μ-loop
 returns c = copy-done _ _ _ (c .loop-test .left) (c .before .loop .inv .0) (omega arith) (c .before .loop .inv .1 .1)
 
 pub copy-spec : {M : Type 1} → statement M
-copy-spec = tie.close (tie.spec Inv-loop μ-loop (λ c. search needs) (search needs) (search needs) (search needs)
-    (search needs) (search needs) (search needs) loop-again (search needs) returns)
+copy-spec = tie.close (tie.spec Inv-loop μ-loop (λ c. search needs) (λ c. search needs) (λ c. search needs) (λ c. search needs)
+    (λ c. search needs) (λ c. search needs) (λ c. search needs) loop-again (λ c. search needs) returns)

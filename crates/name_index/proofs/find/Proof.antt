@@ -29,5 +29,5 @@ returns-3 : tie.Need-returns-3
 returns-3 c = nothing-found (found-past _ _ _ _ _ (c .before .place .ensures) (c .if1 .left) (ranks (c .before .before .before .before .before .before .pre)))
 
 pub find-spec : {M : Type 1} → statement M
-find-spec = tie.close (tie.spec (λ c κs. search needs) (search needs) (search needs) cast-p is-at-requires returns
+find-spec = tie.close (tie.spec (λ c κs. search needs) (λ c. search needs) (λ c. search needs) cast-p is-at-requires returns
     returns-2 returns-3)

@@ -52,6 +52,6 @@ returns-2 c =
     nothing-found (seen-none _ _ _ (ranks (at-start .pre)) (at-loop .loop .inv .1) (at-loop-test .loop-test .left) (c .if3 .left))
 
 pub first-repeat-spec : {M : Type 1} → statement M
-first-repeat-spec = tie.close (tie.spec Inv-loop μ-loop loop-holds (search needs) (search needs) cast-p (search needs)
-    (search needs) (search needs) cast-q is-twin-requires (search needs) (search needs) loop-again (search needs)
-    (search needs) loop-again-2 (search needs) (search needs) loop-again-3 returns returns-2)
+first-repeat-spec = tie.close (tie.spec Inv-loop μ-loop loop-holds (λ c. search needs) (λ c. search needs) cast-p (λ c. search needs)
+    (λ c. search needs) (λ c. search needs) cast-q is-twin-requires (λ c. search needs) (λ c. search needs) loop-again (λ c. search needs)
+    (λ c. search needs) loop-again-2 (λ c. search needs) (λ c. search needs) loop-again-3 returns returns-2)

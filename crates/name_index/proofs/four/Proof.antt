@@ -63,6 +63,6 @@ returns c =
     (refl, omega (arith, at-shared-slice-known .shared-slice-known .given (at-start .args .i), at-shared-slice-known2 .shared-slice-known2 .given (at-start .args .i + 1), at-shared-slice-known3 .shared-slice-known3 .given (at-start .args .i + 2), c .shared-slice-known4 .given (at-start .args .i + 3)))
 
 pub four-spec : {M : Type 1} → statement M
-four-spec = tie.close (tie.spec (search needs) cast-result (search needs) (search needs) cast-result-2 mul-result
-    add-result-2 (search needs) (search needs) cast-result-3 mul-result-2 add-result-4 (search needs) (search needs)
+four-spec = tie.close (tie.spec (λ c. search needs) cast-result (λ c. search needs) (λ c. search needs) cast-result-2 mul-result
+    add-result-2 (λ c. search needs) (λ c. search needs) cast-result-3 mul-result-2 add-result-4 (λ c. search needs) (λ c. search needs)
     cast-result-4 mul-result-3 add-result-6 returns)

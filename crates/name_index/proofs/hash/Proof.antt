@@ -14,5 +14,5 @@ returns-2 c =
     hash-long _ (at-if1 .if1 .left) (at-mix-eights .mix-eights .ensures) (at-four .four .ensures .0) (at-four2 .four2 .ensures .0) (c .mix .ensures)
 
 pub hash-spec : {M : Type 1} → statement M
-hash-spec = tie.close (tie.spec returns (search needs) (search needs) (search needs) (search needs) (search needs)
-    (search needs) returns-2)
+hash-spec = tie.close (tie.spec returns (λ c. search needs) (λ c. search needs) (λ c. search needs) (λ c. search needs) (λ c. search needs)
+    (λ c. search needs) returns-2)

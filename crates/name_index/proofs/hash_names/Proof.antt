@@ -29,5 +29,5 @@ returns : tie.Need-returns Inv-loop μ-loop
 returns c = filled-end (c .before .loop .inv .1) (c .before .loop .inv .0) (c .loop-test .left) (c .before .before .before .before .pre .enough)
 
 pub hash-names-spec : {M : Type 1} → statement M
-hash-names-spec = tie.close (tie.spec Inv-loop μ-loop (λ c. search needs) name-at-requires (search needs) (search needs)
-    (search needs) (search needs) (search needs) loop-again (search needs) returns)
+hash-names-spec = tie.close (tie.spec Inv-loop μ-loop (λ c. search needs) name-at-requires (λ c. search needs) (λ c. search needs)
+    (λ c. search needs) (λ c. search needs) (λ c. search needs) loop-again (λ c. search needs) returns)

@@ -17,4 +17,4 @@ returns-2 c =
     c .is-same .ensures ∙ (same-eq {v = at-start .args .name .now} (at-name-at .name-at .ensures) refl ∙ same-name (nameOf (at-start .args .bytes .now) (at-start .args .l) (at-start .args .p)) (at-start .args .name .now) (at-if1 .if1 .left))
 
 pub is-at-spec : {M : Type 1} → statement M
-is-at-spec = tie.close (tie.spec (search needs) (search needs) returns (search needs) (search needs) returns-2)
+is-at-spec = tie.close (tie.spec (λ c. search needs) (λ c. search needs) returns (λ c. search needs) (λ c. search needs) returns-2)

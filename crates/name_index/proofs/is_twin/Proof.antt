@@ -23,4 +23,4 @@ returns c =
     c .is-at .ensures ∙ same-eq {x = keyedName (at-start .args .keys .now) (at-start .args .bytes .now) (at-start .args .l) (at-start .args .q)} refl (ap (λ (y : List ℕ). getD (at-start .args .keys .now) (at-start .args .p) 0 ∷ y) (at-name-at .name-at .ensures))
 
 pub is-twin-spec : {M : Type 1} → statement M
-is-twin-spec = tie.close (tie.spec (search needs) (search needs) name-at-requires is-at-requires returns)
+is-twin-spec = tie.close (tie.spec (λ c. search needs) (λ c. search needs) name-at-requires is-at-requires returns)

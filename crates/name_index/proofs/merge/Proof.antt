@@ -54,7 +54,7 @@ returns c =
     let a = at-start .args in let l = at-loop .loop in left-done (l .inv .1 .1) (merge-end (keyedName (a .keys .now) (a .bytes .now) (a .l)) (a .a .now) (a .b .now) (l .i) (l .j) (omega arith) (omega arith)) (length-merged _ _ _ ∙ sym (at-start .pre .1 .1 .1))
 
 pub merge-spec : {M : Type 1} → statement M
-merge-spec = tie.close (tie.spec Inv-loop μ-loop (λ c. search needs) (search needs) (λ c κs. search needs)
-    (search needs) shared-slice-read-out (search needs) (search needs) (search needs) (search needs) (search needs)
-    loop-again (search needs) shared-slice-read-out-2 (search needs) (search needs) (search needs) (search needs)
-    (search needs) loop-again-2 (search needs) returns)
+merge-spec = tie.close (tie.spec Inv-loop μ-loop (λ c. search needs) (λ c. search needs) (λ c κs. search needs)
+    (λ c. search needs) shared-slice-read-out (λ c. search needs) (λ c. search needs) (λ c. search needs) (λ c. search needs) (λ c. search needs)
+    loop-again (λ c. search needs) shared-slice-read-out-2 (λ c. search needs) (λ c. search needs) (λ c. search needs) (λ c. search needs)
+    (λ c. search needs) loop-again-2 (λ c. search needs) returns)

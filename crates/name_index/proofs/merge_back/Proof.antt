@@ -30,5 +30,5 @@ returns c =
     let s = at-place in let m = at-merge-halves .merge-halves in let out = m .last .1 .1 .1 .1 .1 .1 .0 in let n = length (s .args .runs .now) in let k = merged-halves-length _ (s .args .h) (s .args .runs .now) out (s .pre .1 .1 .0) (m .ensures) in let t = take-at out (drop n (s .args .other .now)) n k in at-copy .copy .ensures ∙ (t ∙ m .ensures)
 
 pub merge-back-spec : {M : Type 1} → statement M
-merge-back-spec = tie.close (tie.spec (search needs) slice-aggregate-merge-halves merge-halves-requires (search needs)
-    slice-aggregate-copy copy-requires (search needs) (search needs) returns)
+merge-back-spec = tie.close (tie.spec (λ c. search needs) slice-aggregate-merge-halves merge-halves-requires (λ c. search needs)
+    slice-aggregate-copy copy-requires (λ c. search needs) (λ c. search needs) returns)

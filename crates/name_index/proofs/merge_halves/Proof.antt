@@ -20,5 +20,5 @@ returns : tie.Need-returns
 returns c = let s = c .before .before .before .before .before .before .before .before .before .before in let x = s .args .runs .now in let h = s .args .h in c .before .before .merge .ensures ∙ ap (merged (keyedName (s .args .keys .now) (s .args .bytes .now) (s .args .l)) (take h x)) (half-is h x)
 
 pub merge-halves-spec : {M : Type 1} → statement M
-merge-halves-spec = tie.close (tie.spec slice-aggregate-a (search needs) (search needs) (search needs) (search needs)
-    merge-requires (search needs) returns)
+merge-halves-spec = tie.close (tie.spec slice-aggregate-a (λ c. search needs) (λ c. search needs) (λ c. search needs) (λ c. search needs)
+    merge-requires (λ c. search needs) returns)

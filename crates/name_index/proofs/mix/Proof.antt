@@ -11,4 +11,4 @@ unfolding mixed
 returns c = refl
 
 pub mix-spec : {M : Type 1} → statement M
-mix-spec = tie.close (tie.spec (search needs) (search needs) (search needs) (search needs) (search needs) returns)
+mix-spec = tie.close (tie.spec (λ c. search needs) (λ c. search needs) (λ c. search needs) (λ c. search needs) (λ c. search needs) returns)

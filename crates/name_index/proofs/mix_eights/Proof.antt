@@ -26,5 +26,5 @@ returns : tie.Need-returns Inv-loop μ-loop
 returns c = mixing-done (c .before .loop .inv) (c .loop-test .left)
 
 pub mix-eights-spec : {M : Type 1} → statement M
-mix-eights-spec = tie.close (tie.spec Inv-loop μ-loop loop-holds (search needs) (search needs) (search needs)
-    (search needs) (search needs) (search needs) (search needs) loop-again returns)
+mix-eights-spec = tie.close (tie.spec Inv-loop μ-loop loop-holds (λ c. search needs) (λ c. search needs) (λ c. search needs)
+    (λ c. search needs) (λ c. search needs) (λ c. search needs) (λ c. search needs) loop-again returns)

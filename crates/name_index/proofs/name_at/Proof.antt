@@ -11,4 +11,4 @@ unfolding nameOf fieldAt
 returns c = c .field-at .ensures
 
 pub name-at-spec : {M : Type 1} → statement M
-name-at-spec = tie.close (tie.spec (search needs) (search needs) (search needs) returns)
+name-at-spec = tie.close (tie.spec (λ c. search needs) (λ c. search needs) (λ c. search needs) returns)

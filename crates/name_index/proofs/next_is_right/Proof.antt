@@ -28,5 +28,5 @@ returns-3 : tie.Need-returns-3
 returns-3 c = let at-if2 = c .before .before .before in let at-if1 = at-if2 .before in c .precedes .ensures ∙ sym (both-left _ _ _ _ _ (at-if1 .if1 .left) (at-if2 .if2 .left))
 
 pub next-is-right-spec : {M : Type 1} → statement M
-next-is-right-spec = tie.close (tie.spec returns returns-2 (search needs) (search needs) cast-precedes (search needs)
-    (search needs) cast-precedes-2 precedes-requires returns-3)
+next-is-right-spec = tie.close (tie.spec returns returns-2 (λ c. search needs) (λ c. search needs) cast-precedes (λ c. search needs)
+    (λ c. search needs) cast-precedes-2 precedes-requires returns-3)

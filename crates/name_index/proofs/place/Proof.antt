@@ -42,5 +42,5 @@ returns : tie.Need-returns Inv-loop μ-loop
 returns c = narrow-done _ _ _ (c .before .loop .inv) (c .loop-test .left)
 
 pub place-spec : {M : Type 1} → statement M
-place-spec = tie.close (tie.spec Inv-loop μ-loop loop-holds (search needs) (search needs) (search needs) (search needs)
-    cast-comes-first comes-first-requires (search needs) (search needs) loop-again (search needs) loop-again-2 returns)
+place-spec = tie.close (tie.spec Inv-loop μ-loop loop-holds (λ c. search needs) (λ c. search needs) (λ c. search needs) (λ c. search needs)
+    cast-comes-first comes-first-requires (λ c. search needs) (λ c. search needs) loop-again (λ c. search needs) loop-again-2 returns)

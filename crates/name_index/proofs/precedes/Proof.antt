@@ -22,4 +22,4 @@ returns c =
     c .comes-first .ensures ∙ before-eq refl (ap (λ (y : List ℕ). getD (at-start .args .keys .now) (at-start .args .q) 0 ∷ y) (at-name-at .name-at .ensures))
 
 pub precedes-spec : {M : Type 1} → statement M
-precedes-spec = tie.close (tie.spec (search needs) (search needs) name-at-requires comes-first-requires returns)
+precedes-spec = tie.close (tie.spec (λ c. search needs) (λ c. search needs) name-at-requires comes-first-requires returns)

@@ -16,5 +16,5 @@ precedes-requires : tie.Need-precedes-requires
 precedes-requires c κs = let at-start = c .before .before .before .before .before in (at-start .pre .0, (at-start .pre .1 .0 _ (at-start .pre .1 .1 .1), at-start .pre .1 .0 (at-start .args .h - 1) (omega arith)))
 
 pub runs-overlap-spec : {M : Type 1} → statement M
-runs-overlap-spec = tie.close (tie.spec (search needs) (search needs) cast-precedes (search needs) (search needs)
-    (search needs) cast-precedes-2 precedes-requires (λ c. search needs))
+runs-overlap-spec = tie.close (tie.spec (λ c. search needs) (λ c. search needs) cast-precedes (λ c. search needs) (λ c. search needs)
+    (λ c. search needs) cast-precedes-2 precedes-requires (λ c. search needs))

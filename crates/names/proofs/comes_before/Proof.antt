@@ -21,5 +21,5 @@ returns-4 : tie.Need-returns-4
 returns-4 c = run-differ _ _ (omega arith) (omega arith) (c .before .before .before .common2 .ensures) (c .before .before .if3 .left)
 
 pub comes-before-spec : {M : Type 1} → statement M
-comes-before-spec = tie.close (tie.spec (search needs) returns (search needs) (search needs) returns-2 (search needs)
-    returns-3 (search needs) (search needs) returns-4)
+comes-before-spec = tie.close (tie.spec (λ c. search needs) returns (λ c. search needs) (λ c. search needs) returns-2 (λ c. search needs)
+    returns-3 (λ c. search needs) (λ c. search needs) returns-4)

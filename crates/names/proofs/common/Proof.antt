@@ -24,5 +24,5 @@ returns-2 : tie.Need-returns-2 Inv-loop μ-loop
 returns-2 c = run-end _ _ (c .before .loop .inv) (c .loop-test .left)
 
 pub common-spec : {M : Type 1} → statement M
-common-spec = tie.close (tie.spec Inv-loop μ-loop (search needs) (λ c. search needs) (search needs) (search needs)
-    returns (search needs) (search needs) loop-again returns-2)
+common-spec = tie.close (tie.spec Inv-loop μ-loop (λ c. search needs) (λ c. search needs) (λ c. search needs) (λ c. search needs)
+    returns (λ c. search needs) (λ c. search needs) loop-again returns-2)

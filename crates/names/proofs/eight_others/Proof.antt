@@ -10,7 +10,7 @@ returns c =
     rw (at-is-other .is-other .ensures, at-is-other2 .is-other2 .ensures, at-is-other3 .is-other3 .ensures, at-is-other4 .is-other4 .ensures, at-is-other5 .is-other5 .ensures, at-is-other6 .is-other6 .ensures, at-is-other7 .is-other7 .ensures, c .is-other8 .ensures)
 
 pub eight-others-spec : {M : Type 1} → statement M
-eight-others-spec = tie.close (tie.spec (search needs) (search needs) (search needs) (search needs) (search needs)
-    (search needs) (search needs) (search needs) (search needs) (search needs) (search needs) (search needs)
-    (search needs) (search needs) (search needs) (search needs) (search needs) (search needs) (search needs)
-    (search needs) (search needs) (search needs) (search needs) returns)
+eight-others-spec = tie.close (tie.spec (λ c. search needs) (λ c. search needs) (λ c. search needs) (λ c. search needs) (λ c. search needs)
+    (λ c. search needs) (λ c. search needs) (λ c. search needs) (λ c. search needs) (λ c. search needs) (λ c. search needs) (λ c. search needs)
+    (λ c. search needs) (λ c. search needs) (λ c. search needs) (λ c. search needs) (λ c. search needs) (λ c. search needs) (λ c. search needs)
+    (λ c. search needs) (λ c. search needs) (λ c. search needs) (λ c. search needs) returns)

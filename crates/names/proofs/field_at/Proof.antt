@@ -9,4 +9,4 @@ returns : tie.Need-returns
 returns c = let a = c .before .args in field-is (a .w) (a .bytes .now) (a .at)
 
 pub field-at-spec : {M : Type 1} → statement M
-field-at-spec = tie.close (tie.spec (search needs) (search needs) (search needs) (search needs) returns)
+field-at-spec = tie.close (tie.spec (λ c. search needs) (λ c. search needs) (λ c. search needs) (λ c. search needs) returns)

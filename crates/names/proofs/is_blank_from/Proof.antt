@@ -16,5 +16,5 @@ returns-3 : tie.Need-returns-3
 returns-3 c = let at-if2 = c .before .before .before in let at-if1 = at-if2 .before .before in c .is-same .ensures ∙ blank-shifted _ _ (at-if1 .if1 .left) (at-if2 .if2 .left)
 
 pub is-blank-from-spec : {M : Type 1} → statement M
-is-blank-from-spec = tie.close (tie.spec returns (search needs) returns-2 (search needs) (search needs) (search needs)
-    (search needs) (search needs) (search needs) (search needs) (search needs) (search needs) returns-3)
+is-blank-from-spec = tie.close (tie.spec returns (λ c. search needs) returns-2 (λ c. search needs) (λ c. search needs) (λ c. search needs)
+    (λ c. search needs) (λ c. search needs) (λ c. search needs) (λ c. search needs) (λ c. search needs) (λ c. search needs) returns-3)

@@ -13,4 +13,4 @@ returns-2 : tie.Need-returns-2
 returns-2 c = sym (is-name _ (sym (c .enum-told .given .1) ∙ c .before .before .read-field .ensures))
 
 pub is-name-spec : {M : Type 1} → statement M
-is-name-spec = tie.close (tie.spec (search needs) (search needs) returns returns-2)
+is-name-spec = tie.close (tie.spec (λ c. search needs) (λ c. search needs) returns returns-2)

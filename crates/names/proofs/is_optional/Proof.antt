@@ -13,4 +13,4 @@ returns-2 : tie.Need-returns-2
 returns-2 c = sym (is-not-optional _ (sym (c .enum-told .given .1) ∙ c .before .before .read-field .ensures))
 
 pub is-optional-spec : {M : Type 1} → statement M
-is-optional-spec = tie.close (tie.spec (search needs) (search needs) returns returns-2)
+is-optional-spec = tie.close (tie.spec (λ c. search needs) (λ c. search needs) returns returns-2)

@@ -10,4 +10,4 @@ unfolding isOther isDigit
 returns c = rw (c .is-first .ensures)
 
 pub is-other-spec : {M : Type 1} → statement M
-is-other-spec = tie.close (tie.spec (search needs) returns)
+is-other-spec = tie.close (tie.spec (λ c. search needs) returns)

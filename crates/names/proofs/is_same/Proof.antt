@@ -12,4 +12,4 @@ returns-2 : tie.Need-returns-2
 returns-2 c = let at-if1 = c .before in let at-start = at-if1 .before .before .before in run-same (at-start .args .a .now) (at-start .args .b .now) (at-if1 .if1 .left) (c .common .ensures)
 
 pub is-same-spec : {M : Type 1} → statement M
-is-same-spec = tie.close (tie.spec returns (search needs) returns-2)
+is-same-spec = tie.close (tie.spec returns (λ c. search needs) returns-2)

@@ -31,5 +31,5 @@ returns-2 : tie.Need-returns-2 Inv-loop μ-loop
 returns-2 c = run-is isOther (c .before .before .before .before .args .f .now) (run-end _ _ (c .before .loop .inv) (c .loop-test .left))
 
 pub others-spec : {M : Type 1} → statement M
-others-spec = tie.close (tie.spec Inv-loop μ-loop (search needs) (λ c. search needs) (search needs) (search needs)
-    returns (search needs) (search needs) loop-again returns-2)
+others-spec = tie.close (tie.spec Inv-loop μ-loop (λ c. search needs) (λ c. search needs) (λ c. search needs) (λ c. search needs)
+    returns (λ c. search needs) (λ c. search needs) loop-again returns-2)

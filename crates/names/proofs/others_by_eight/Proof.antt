@@ -25,5 +25,5 @@ loop-again c =
     passed-eight _ _ (at-loop .loop .inv) (at-loop-test .loop-test .taken) (sym (at-eight-others .eight-others .ensures) ∙ not-false (at-eight-others .eight-others .result) (c .if1 .left))
 
 pub others-by-eight-spec : {M : Type 1} → statement M
-others-by-eight-spec = tie.close (tie.spec Inv-loop μ-loop loop-holds (search needs) (search needs) (λ c. search needs)
-    (search needs) (search needs) loop-again (λ c. search needs))
+others-by-eight-spec = tie.close (tie.spec Inv-loop μ-loop loop-holds (λ c. search needs) (λ c. search needs) (λ c. search needs)
+    (λ c. search needs) (λ c. search needs) loop-again (λ c. search needs))

@@ -21,5 +21,5 @@ returns : tie.Need-returns Inv-loop μ-loop
 returns c = let i = c .before .loop .inv in let e : c .before .loop .k ≡ c .before .before .args .n = omega (arith, i .0) in rw e at (i .1 .is)
 
 pub put-bytes-spec : {M : Type 1} → statement M
-put-bytes-spec = tie.close (tie.spec Inv-loop μ-loop (search needs) (search needs) (search needs) (search needs)
-    (search needs) (search needs) (search needs) loop-again (search needs) returns)
+put-bytes-spec = tie.close (tie.spec Inv-loop μ-loop (λ c. search needs) (λ c. search needs) (λ c. search needs) (λ c. search needs)
+    (λ c. search needs) (λ c. search needs) (λ c. search needs) loop-again (λ c. search needs) returns)

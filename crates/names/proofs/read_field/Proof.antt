@@ -34,5 +34,5 @@ returns-4 c =
     field-digit _ (at-others .others .ensures) (at-is-blank-from .is-blank-from .ensures) (at-if2 .if2 .left) (at-is-first .is-first .ensures) (c .if3 .left)
 
 pub read-field-spec : {M : Type 1} → statement M
-read-field-spec = tie.close (tie.spec (search needs) is-blank-from-requires returns returns-2 shared-slice-read-is-first
-    (search needs) returns-3 returns-4)
+read-field-spec = tie.close (tie.spec (λ c. search needs) is-blank-from-requires returns returns-2 shared-slice-read-is-first
+    (λ c. search needs) returns-3 returns-4)

@@ -24,5 +24,5 @@ loop-again c =
     passed-eight _ _ (at-loop .loop .inv) (at-loop-test .loop-test .taken) (sym (at-eight-same .eight-same .ensures) ∙ not-false (at-eight-same .eight-same .result) (c .if1 .left))
 
 pub same-by-eight-spec : {M : Type 1} → statement M
-same-by-eight-spec = tie.close (tie.spec Inv-loop μ-loop loop-holds (search needs) (search needs) (λ c. search needs)
-    (search needs) (search needs) loop-again (λ c. search needs))
+same-by-eight-spec = tie.close (tie.spec Inv-loop μ-loop loop-holds (λ c. search needs) (λ c. search needs) (λ c. search needs)
+    (λ c. search needs) (λ c. search needs) loop-again (λ c. search needs))

@@ -34,5 +34,5 @@ returns-2 : tie.Need-returns-2 Inv-loop μ-loop
 returns-2 c = sym (take-all _ _ (c .loop-test .left)) ∙ text-part _ (run-end _ _ (c .before .loop .inv) (c .loop-test .left))
 
 pub unpadded-spec : {M : Type 1} → statement M
-unpadded-spec = tie.close (tie.spec Inv-loop μ-loop loop-holds (search needs) slice-aggregate-result returns
-    (search needs) (search needs) loop-again returns-2)
+unpadded-spec = tie.close (tie.spec Inv-loop μ-loop loop-holds (λ c. search needs) slice-aggregate-result returns
+    (λ c. search needs) (λ c. search needs) loop-again returns-2)

@@ -12,4 +12,4 @@ unfolding field
 returns c = c .read-field .ensures ∙ ap fieldOf (c .before .field-at .ensures)
 
 pub field-at-spec : {M : Type 1} → statement M
-field-at-spec = tie.close (tie.spec (search needs) (search needs) (search needs) (search needs) returns)
+field-at-spec = tie.close (tie.spec (λ c. search needs) (λ c. search needs) (λ c. search needs) (λ c. search needs) returns)

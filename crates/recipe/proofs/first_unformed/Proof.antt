@@ -49,5 +49,5 @@ returns-2 : tie.Need-returns-2 Inv-loop μ-loop
 returns-2 c = nothing-found (fault-3 _ ∙ going-end (c .before .loop .inv .0) (c .loop-test .left))
 
 pub first-unformed-spec : {M : Type 1} → statement M
-first-unformed-spec = tie.close (tie.spec Inv-loop μ-loop loop-holds read-record-requires (search needs) (search needs)
-    returns (search needs) (search needs) add-p loop-less loop-again returns-2)
+first-unformed-spec = tie.close (tie.spec Inv-loop μ-loop loop-holds read-record-requires (λ c. search needs) (λ c. search needs)
+    returns (λ c. search needs) (λ c. search needs) add-p loop-less loop-again returns-2)

@@ -8,4 +8,4 @@ returns : tie.Need-returns
 returns c = rw (c .before .is-mark .ensures, c .is-port .ensures)
 
 pub is-pointer-spec : {M : Type 1} → statement M
-is-pointer-spec = tie.close (tie.spec (search needs) (search needs) returns)
+is-pointer-spec = tie.close (tie.spec (λ c. search needs) (λ c. search needs) returns)

@@ -38,5 +38,5 @@ returns-5 c =
     whole-other (record { width = at-start .args .w; bytes = at-start .args .s .now }) (at-start .args .p) (c .if4 .left) (sym (at-is-known .is-known .ensures) ∙ not-false (at-is-known .is-known .result) (at-if2 .if2 .left)) (omega (arith, at-record-length .record-length .ensures))
 
 pub is-readable-spec : {M : Type 1} → statement M
-is-readable-spec = tie.close (tie.spec returns (search needs) (search needs) returns-2 (search needs) (search needs)
+is-readable-spec = tie.close (tie.spec returns (λ c. search needs) (λ c. search needs) returns-2 (λ c. search needs) (λ c. search needs)
     returns-3 returns-4 returns-5)

@@ -32,7 +32,7 @@ returns-5 c =
     element-read _ _ (at-start .pre .kinded) (is-name _ (sym (at-enum-told .enum-told .given .1) ∙ at-field-at .field-at .ensures)) (sym (at-is-class .is-class .ensures) ∙ not-false (at-is-class .is-class .result) (at-if1 .if1 .left)) (is-optional _ (at-field-at2 .field-at2 .ensures) (at-match2 .match2 .keys1)) (is-optional _ (at-field-at3 .field-at3 .ensures) (c .match3 .keys1))
 
 pub read-element-spec : {M : Type 1} → statement M
-read-element-spec = tie.close (tie.spec (λ c κs. search needs) (search needs) returns (search needs) (search needs)
-    (search needs) (λ c κs. search needs) returns-2 (search needs) (λ c κs. search needs) (search needs) returns-3
-    (search needs) (search needs) (λ c κs. search needs) (search needs) returns-4 (search needs) (search needs)
-    (search needs) (search needs) (search needs) (search needs) (search needs) (search needs) returns-5)
+read-element-spec = tie.close (tie.spec (λ c κs. search needs) (λ c. search needs) returns (λ c. search needs) (λ c. search needs)
+    (λ c. search needs) (λ c κs. search needs) returns-2 (λ c. search needs) (λ c κs. search needs) (λ c. search needs) returns-3
+    (λ c. search needs) (λ c. search needs) (λ c κs. search needs) (λ c. search needs) returns-4 (λ c. search needs) (λ c. search needs)
+    (λ c. search needs) (λ c. search needs) (λ c. search needs) (λ c. search needs) (λ c. search needs) (λ c. search needs) returns-5)

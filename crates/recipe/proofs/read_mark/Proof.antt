@@ -61,6 +61,6 @@ returns-4 c =
     mark-read _ _ (mark-is _ _ (at-start .pre)) _ (mark-target _ _ (at-start .pre) (at-submodel-offset .submodel-offset .ensures) .begins) (is-name _ (sym (at-enum-told .enum-told .given .1) ∙ at-field-at .field-at .ensures)) (is-name _ (sym (at-enum-told2 .enum-told2 .given .1) ∙ at-field-at2 .field-at2 .ensures)) (sym (at-way .way .given .1) ∙ at-read-target .read-target .ensures)
 
 pub read-mark-spec : {M : Type 1} → statement M
-read-mark-spec = tie.close (tie.spec submodel-offset-requires field-at-requires (search needs) returns
-    field-at-requires-2 (search needs) returns-2 read-target-requires (search needs) (search needs) returns-3 add-t10
+read-mark-spec = tie.close (tie.spec submodel-offset-requires field-at-requires (λ c. search needs) returns
+    field-at-requires-2 (λ c. search needs) returns-2 read-target-requires (λ c. search needs) (λ c. search needs) returns-3 add-t10
     add-t11 add-t12 returns-4)

@@ -14,4 +14,4 @@ returns-2 : tie.Need-returns-2
 returns-2 c = model-read _ _ (c .before .before .before .before .pre .kinded) (is-name _ (sym (c .enum-told .given .1) ∙ c .before .before .field-at .ensures))
 
 pub read-model-spec : {M : Type 1} → statement M
-read-model-spec = tie.close (tie.spec (search needs) (search needs) returns (search needs) returns-2)
+read-model-spec = tie.close (tie.spec (λ c. search needs) (λ c. search needs) returns (λ c. search needs) returns-2)

@@ -30,6 +30,6 @@ returns-4 c =
     port-read _ _ (at-start .pre .kinded) (is-name _ (sym (at-enum-told .enum-told .given .1) ∙ at-field-at .field-at .ensures)) (is-optional _ (at-field-at2 .field-at2 .ensures) (at-match2 .match2 .keys1)) (sym (at-way .way .given .1) ∙ at-read-target .read-target .ensures)
 
 pub read-port-spec : {M : Type 1} → statement M
-read-port-spec = tie.close (tie.spec (λ c κs. search needs) (search needs) returns (λ c κs. search needs) (search needs)
-    returns-2 read-target-requires (search needs) (search needs) returns-3 (search needs) (search needs) (search needs)
+read-port-spec = tie.close (tie.spec (λ c κs. search needs) (λ c. search needs) returns (λ c κs. search needs) (λ c. search needs)
+    returns-2 read-target-requires (λ c. search needs) (λ c. search needs) returns-3 (λ c. search needs) (λ c. search needs) (λ c. search needs)
     returns-4)

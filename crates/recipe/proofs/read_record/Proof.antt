@@ -60,6 +60,6 @@ returns-9 c =
 
 pub read-record-spec : {M : Type 1} → statement M
 read-record-spec = tie.close (tie.spec shared-slice-read-k read-model-requires (λ c. search needs) read-element-requires
-    (λ c. search needs) read-port-requires (λ c. search needs) read-submodel-requires (λ c. search needs) (search needs)
-    returns-5 read-mark-requires (search needs) (search needs) returns-6 (search needs) returns-7 (search needs)
+    (λ c. search needs) read-port-requires (λ c. search needs) read-submodel-requires (λ c. search needs) (λ c. search needs)
+    returns-5 read-mark-requires (λ c. search needs) (λ c. search needs) returns-6 (λ c. search needs) returns-7 (λ c. search needs)
     returns-8 returns-9)

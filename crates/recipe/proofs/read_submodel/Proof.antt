@@ -33,5 +33,5 @@ returns-4 c =
     submodel-read _ _ (at-start .pre .kinded) (sym (at-n .n .given .1) ∙ at-field-at .field-at .ensures) (at-if1 .if1 .left) (is-name _ (sym (c .enum-told .given .1) ∙ at-field-at2 .field-at2 .ensures))
 
 pub read-submodel-spec : {M : Type 1} → statement M
-read-submodel-spec = tie.close (tie.spec (search needs) (search needs) returns add-if1 shared-slice-read-if1 returns-2
-    (search needs) (search needs) returns-3 (search needs) (search needs) (search needs) returns-4)
+read-submodel-spec = tie.close (tie.spec (λ c. search needs) (λ c. search needs) returns add-if1 shared-slice-read-if1 returns-2
+    (λ c. search needs) (λ c. search needs) returns-3 (λ c. search needs) (λ c. search needs) (λ c. search needs) returns-4)

@@ -26,6 +26,6 @@ returns-4 c =
     target-port _ _ _ (at-start .pre .begins) (at-if1 .if1 .left) (is-name _ (sym (at-enum-told .enum-told .given .1) ∙ at-field-at .field-at .ensures)) (c .if2 .left)
 
 pub read-target-spec : {M : Type 1} → statement M
-read-target-spec = tie.close (tie.spec (search needs) (search needs) (search needs) (search needs) returns
-    (search needs) (search needs) (search needs) (search needs) returns-2 (search needs) (search needs) (search needs)
-    (search needs) returns-3 returns-4)
+read-target-spec = tie.close (tie.spec (λ c. search needs) (λ c. search needs) (λ c. search needs) (λ c. search needs) returns
+    (λ c. search needs) (λ c. search needs) (λ c. search needs) (λ c. search needs) returns-2 (λ c. search needs) (λ c. search needs) (λ c. search needs)
+    (λ c. search needs) returns-3 returns-4)

@@ -48,5 +48,5 @@ returns c =
     left-end (record { width = at-start .args .w; bytes = at-start .args .s .now }) _ (sym (at-is-readable .is-readable .ensures) ∙ c .if1 .left) (at-loop .loop .inv .1)
 
 pub reading-stop-spec : {M : Type 1} → statement M
-reading-stop-spec = tie.close (tie.spec Inv-loop μ-loop loop-holds (search needs) shared-slice-read-record-length
-    (search needs) add-p loop-less loop-again returns)
+reading-stop-spec = tie.close (tie.spec Inv-loop μ-loop loop-holds (λ c. search needs) shared-slice-read-record-length
+    (λ c. search needs) add-p loop-less loop-again returns)

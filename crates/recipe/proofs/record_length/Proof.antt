@@ -24,5 +24,5 @@ returns-6 : tie.Need-returns-6
 returns-6 c = length-past _ _ (c .if2 .left)
 
 pub record-length-spec : {M : Type 1} → statement M
-record-length-spec = tie.close (tie.spec (search needs) (search needs) (search needs) (search needs) (search needs)
-    (search needs) (search needs) returns returns-2 returns-3 returns-4 returns-5 returns-6)
+record-length-spec = tie.close (tie.spec (λ c. search needs) (λ c. search needs) (λ c. search needs) (λ c. search needs) (λ c. search needs)
+    (λ c. search needs) (λ c. search needs) returns returns-2 returns-3 returns-4 returns-5 returns-6)

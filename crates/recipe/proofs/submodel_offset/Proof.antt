@@ -16,4 +16,4 @@ returns-2 c =
     offset-behind (at-start .args .w) (at-start .args .k) (at-start .pre) (sym (at-is-deletion .is-deletion .ensures) ∙ c .if1 .left)
 
 pub submodel-offset-spec : {M : Type 1} → statement M
-submodel-offset-spec = tie.close (tie.spec (search needs) returns returns-2)
+submodel-offset-spec = tie.close (tie.spec (λ c. search needs) returns returns-2)

@@ -9,4 +9,4 @@ returns : tie.Need-returns
 returns c = (refl, rw (c .before .before .set-cell2 .ensures, c .before .before .before .before .before .before .set-cell .ensures))
 
 pub keep-target-spec : {M : Type 1} → statement M
-keep-target-spec = tie.close (tie.spec (search needs) (search needs) (search needs) returns)
+keep-target-spec = tie.close (tie.spec (λ c. search needs) (λ c. search needs) (λ c. search needs) returns)

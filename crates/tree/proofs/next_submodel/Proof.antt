@@ -98,5 +98,5 @@ returns-3 c =
 
 pub next-submodel-spec : {M : Type 1} → statement M
 next-submodel-spec = tie.close (tie.spec Inv-loop μ-loop cell-requires shared-slice-read-record-length
-    record-length-requires add-q loop-holds cell-requires-2 returns (search needs) returns-2 record-length-requires-2
+    record-length-requires add-q loop-holds cell-requires-2 returns (λ c. search needs) returns-2 record-length-requires-2
     add-q-2 loop-less loop-again returns-3)

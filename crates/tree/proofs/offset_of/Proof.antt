@@ -13,4 +13,4 @@ returns-2 c =
     let q = at-cell .cell .ensures .0 in record { small = c .cell2 .ensures .1; blank = λ z. absurd (at-if1 .if1 .left (q ∙ z)); filled = λ z. c .cell2 .ensures .0 ∙ ap (λ (m : ℕ). getD (at-start .args .t .now) (m + 7) 0) q }
 
 pub offset-of-spec : {M : Type 1} → statement M
-offset-of-spec = tie.close (tie.spec (search needs) (λ c. search needs) (search needs) returns-2)
+offset-of-spec = tie.close (tie.spec (λ c. search needs) (λ c. search needs) (λ c. search needs) returns-2)

@@ -80,6 +80,6 @@ returns-3 c =
     main-planted R0 R10 inst R11 put-row walk if2-left clear-cells thread-instances (c .plant-answer3 .ensures .0) (c .plant-answer3 .ensures .1 .0) (c .plant-answer3 .ensures .1 .1)
 
 pub plant-spec : {M : Type 1} → statement M
-plant-spec = tie.close (tie.spec cell-requires (search needs) (search needs) returns put-row-requires walk-requires
-    (search needs) (search needs) (search needs) returns-2 clear-cells-requires thread-instances-requires (search needs)
-    (search needs) (search needs) returns-3)
+plant-spec = tie.close (tie.spec cell-requires (λ c. search needs) (λ c. search needs) returns put-row-requires walk-requires
+    (λ c. search needs) (λ c. search needs) (λ c. search needs) returns-2 clear-cells-requires thread-instances-requires (λ c. search needs)
+    (λ c. search needs) (λ c. search needs) returns-3)

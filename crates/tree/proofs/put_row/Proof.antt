@@ -12,6 +12,6 @@ returns c =
     rw (at-set-cell6 .set-cell6 .ensures, at-set-cell5 .set-cell5 .ensures, at-set-cell4 .set-cell4 .ensures, at-set-cell3 .set-cell3 .ensures, at-set-cell2 .set-cell2 .ensures, at-set-cell .set-cell .ensures, add-zero, add-one, add-two, add-three, add-four, add-five)
 
 pub put-row-spec : {M : Type 1} → statement M
-put-row-spec = tie.close (tie.spec (search needs) (search needs) (search needs) (search needs) (search needs)
-    (search needs) (search needs) (search needs) (search needs) (search needs) (search needs) (search needs)
-    (search needs) returns)
+put-row-spec = tie.close (tie.spec (λ c. search needs) (λ c. search needs) (λ c. search needs) (λ c. search needs) (λ c. search needs)
+    (λ c. search needs) (λ c. search needs) (λ c. search needs) (λ c. search needs) (λ c. search needs) (λ c. search needs) (λ c. search needs)
+    (λ c. search needs) returns)
