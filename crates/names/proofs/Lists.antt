@@ -201,6 +201,31 @@ begins-rest (x ∷ xs) (y ∷ ys) e =
     (r .0, cc))
     (λ t. absurd (false≢true (rw t at e)))
 
+-- a list begins with two others where it begins with the first, and the second begins what is behind
+pub begins-split : (xs ys zs : List ℕ) → begins (xs ++ ys) zs ≡ begins xs zs && begins ys (drop (length xs) zs)
+begins-split [] ys zs = refl
+begins-split (x ∷ xs) ys [] = refl
+begins-split (x ∷ xs) ys (z ∷ zs) = by-cases (eqb x z) (λ t. rw t (begins-split xs ys zs)) (λ t. rw t)
+
+-- and is the two where the second is all that is behind
+pub same-split : (xs ys zs : List ℕ) → same (xs ++ ys) zs ≡ begins xs zs && same ys (drop (length xs) zs)
+same-split [] ys zs = refl
+same-split (x ∷ xs) ys [] = refl
+same-split (x ∷ xs) ys (z ∷ zs) = by-cases (eqb x z) (λ t. rw t (same-split xs ys zs)) (λ t. rw t)
+
+-- as many bytes of a list are compared as the other has
+pub begins-same : (xs ys : List ℕ) → length xs ≤ length ys → begins xs ys ≡ same xs (take (length xs) ys)
+begins-same [] ys h = refl
+begins-same (x ∷ xs) [] h = absurd (omega arith)
+begins-same (x ∷ xs) (y ∷ ys) h = rw (begins-same xs ys (omega arith))
+
+pub same-zeros : (n : ℕ) (xs : List ℕ) → length xs ≡ n → same (replicate n 0) xs ≡ every (eqb 0) xs
+same-zeros zero [] e = refl
+same-zeros zero (x ∷ xs) e = absurd (omega arith)
+same-zeros (suc n) [] e = absurd (omega arith)
+same-zeros (suc n) (x ∷ xs) e =
+    by-cases (eqb 0 x) (λ t. rw (t, every) (same-zeros n xs (omega arith))) (λ t. rw (t, every))
+
 -- ---- lengths
 pub padded-length : (w : ℕ) (n : List ℕ) → length n ≤ w → length (padded w n) ≡ w
 unfolding padded
