@@ -87,11 +87,11 @@ pub some-instance : (s : Recipe) → 1 ≤ length (instances s)
 unfolding instances pathsBelow mostDepth
 some-instance s = omega arith
 
-main-path : (s : Recipe) → getD (instances s) 0 [] ≡ []
+pub main-path : (s : Recipe) → getD (instances s) 0 [] ≡ []
 unfolding instances pathsBelow mostDepth
 main-path s = refl
 
-main-prefixes : (s : Recipe) → prefixesOf s 0 ≡ []
+pub main-prefixes : (s : Recipe) → prefixesOf s 0 ≡ []
 unfolding prefixesOf
 main-prefixes s = ap (λ (path : List ℕ). joined (map (prefix s) path)) (main-path s)
 
@@ -134,35 +134,51 @@ module _ {s : Recipe} {t inst : List ℕ} {n : ℕ} (x : Planted s t inst n) whe
   pub around-low : {i u : ℕ} → i < n → 0 < i → u ≡ getD inst (6 * i + 4) 0 → u < i
   around-low {i} low pos e = omega (arith, x .rows .below i low pos)
 
+-- ---- an instance and the one around it
+-- the prefixes of instance i, of submodel m, are those of the instance u around it, and the prefix of m
+pub record Behind (s : Recipe) (i m u : ℕ) : Type 0 where
+  pub inside : i < length (instances s)
+  pub submodel : In m (submodels s (holder s m))
+  pub prefixes-are : prefixesOf s i ≡ prefixesOf s u ++ prefix s m
+  pub short : length (prefixesOf s u) + length (prefix s m) ≤ rowWidth (s .width)
+
+pub behind : {s : Recipe} {t inst : List ℕ} {n i m u : ℕ} → Planted s t inst n → i < n → 0 < i → m ≡ getD inst (6 * i + 3) 0 → u ≡ getD inst (6 * i + 4) 0 → Behind s i m u
+unfolding prefixesOf
+behind {s} {t} {inst} {n} {i} {m} {u} x low pos em eu =
+    let z : i < length (instances s) = omega (arith, x .rows .count) in
+    let path-is : getD (instances s) i [] ≡ getD (instances s) u [] ++ (m ∷ []) = x .rows .above i low pos ∙ sym (rw (em, eu)) in
+    let are : prefixesOf s i ≡ prefixesOf s u ++ prefix s m =
+    ap (λ (path : List ℕ). joined (map (prefix s) path)) path-is ∙ joined-last (prefix s) (getD (instances s) u []) m in
+    record {
+      inside = z;
+      submodel = last-submodel s main (getD (instances s) u []) m (rw path-is at (instance-path s (getD (instances s) i []) (getD-in (instances s) i [] z)));
+      prefixes-are = are;
+      short = omega (arith, ap length are, length-append (prefixesOf s u) (prefix s m), prefixes-short s (naming x) i z);
+    }
+
 -- ---- a turn: the row of instance i, of submodel m, behind that of u
 pub record Turn (s : Recipe) (pre len : List ℕ) (i m u l row : ℕ) : Type 0 where
-  pub submodel : In m (submodels s (holder s m))
+  pub behind-is : Behind s i m u
   pub fits : l + length (prefix s m) ≤ row
   pub apart : u * row + row ≤ i * row
   pub inside : i * row + row ≤ length pre
   pub counted : i < length len
-  pub row-is : prefixesOf s i ≡ prefixesOf s u ++ prefix s m
   pub before-is : l ≡ length (prefixesOf s u)
 
 module _ {s : Recipe} {t inst pre₀ len₀ pre len : List ℕ} {n i : ℕ} (x : Planted s t inst n) (g : Rowed s pre₀ len₀ pre len n i) (low : i < n)
     {m u l row : ℕ} (em : m ≡ getD inst (6 * i + 3) 0) (eu : u ≡ getD inst (6 * i + 4) 0) (el : l ≡ getD len u 0) (er : row ≡ rowWidth (s .width)) where
   pub turn : Turn s pre len i m u l row
-  unfolding prefixesOf
   turn =
       let under : u < i = around-low x low (g .above) eu in
-      let z : i < length (instances s) = omega (arith, x .rows .count) in
-      let path-is : getD (instances s) i [] ≡ getD (instances s) u [] ++ (m ∷ []) = x .rows .above i low (g .above) ∙ sym (rw (em, eu)) in
-      let row-is : prefixesOf s i ≡ prefixesOf s u ++ prefix s m =
-      ap (λ (path : List ℕ). joined (map (prefix s) path)) path-is ∙ joined-last (prefix s) (getD (instances s) u []) m in
+      let b = behind x low (g .above) em eu in
       let before-is : l ≡ length (prefixesOf s u) = el ∙ g .rows .lengths u under in
-      let here = row-inside (g .rows) z in
+      let here = row-inside (g .rows) (b .inside) in
       record {
-        submodel = last-submodel s main (getD (instances s) u []) m (rw path-is at (instance-path s (getD (instances s) i []) (getD-in (instances s) i [] z)));
-        fits = omega (arith, ap length row-is, length-append (prefixesOf s u) (prefix s m), prefixes-short s (naming x) i z);
+        behind-is = b;
+        fits = omega (arith, b .short);
         apart = rows-below u i row under;
         inside = rw er (here .1);
         counted = here .0;
-        row-is = row-is;
         before-is = before-is;
       }
 
@@ -174,8 +190,8 @@ module _ {s : Recipe} {t inst pre₀ len₀ pre len : List ℕ} {n i : ℕ} (x :
       let P = prefixesOf s i in
       let under : u < i = around-low x low (g .above) eu in
       let same-row : take l (drop (u * row) pre) ≡ prefixesOf s u = rw (er, T .before-is) (g .rows .bytes u under) in
-      let put : pre′ ≡ sets pre (i * R) P = ep ∙ rw (same-row, er, T .row-is) in
-      let size : length P ≡ r = ap length (T .row-is) ∙ (length-append (prefixesOf s u) (prefix s m) ∙ omega (arith, T .before-is)) in
+      let put : pre′ ≡ sets pre (i * R) P = ep ∙ rw (same-row, er, T .behind-is .prefixes-are) in
+      let size : length P ≡ r = ap length (T .behind-is .prefixes-are) ∙ (length-append (prefixesOf s u) (prefix s m) ∙ omega (arith, T .before-is)) in
       let long : length pre′ ≡ length pre = sets-long pre′ pre (i * R) P put in
       record {
         rows = record {

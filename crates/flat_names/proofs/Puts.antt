@@ -99,7 +99,7 @@ module _ (s : Recipe) (x : Naming s) where
   pub element-low : (d q : ℕ) → In q (elements s d) → q + 1 + s .width < length (s .bytes)
   element-low d q i = let r = in-elements s d q i in class-low s q (r .placed) (r .passes)
 
-  element-field : (d q : ℕ) → In q (elements s d) → take (s .width) (drop (q + 1) (s .bytes)) ≡ padded (s .width) (name s q)
+  pub element-field : (d q : ℕ) → In q (elements s d) → take (s .width) (drop (q + 1) (s .bytes)) ≡ padded (s .width) (name s q)
   unfolding name firstField field fieldAt
   element-field d q i =
       let low = element-low d q i in

@@ -56,14 +56,14 @@ unfolding runBehind
 behind-none x = refl
 
 -- a name and k underscores begin a name where k or more follow it there
-behind-most : (n : List ℕ) (k : ℕ) (x : List ℕ) → begins (n ++ replicate k underscore) x ≡ true → k ≤ runBehind n x
+pub behind-most : (n : List ℕ) (k : ℕ) (x : List ℕ) → begins (n ++ replicate k underscore) x ≡ true → k ≤ runBehind n x
 behind-most [] k x e = rw behind-none (first-most k x e)
 behind-most (a ∷ n) k [] e = absurd (false≢true e)
 behind-most (a ∷ n) k (b ∷ x) e =
     let u = and-left (eqb a b) _ e in
     rw (behind-on a n b x u) (behind-most n k x (and-right (eqb a b) _ e))
 
-most-behind : (n : List ℕ) (k : ℕ) (x : List ℕ) → 1 ≤ k → k ≤ runBehind n x → begins (n ++ replicate k underscore) x ≡ true
+pub most-behind : (n : List ℕ) (k : ℕ) (x : List ℕ) → 1 ≤ k → k ≤ runBehind n x → begins (n ++ replicate k underscore) x ≡ true
 most-behind [] k x l h = most-first k x (rw behind-none at h)
 most-behind (a ∷ n) k [] l h = absurd (omega (arith, behind-empty a n))
 most-behind (a ∷ n) k (b ∷ x) l h =

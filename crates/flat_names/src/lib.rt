@@ -1,5 +1,6 @@
 // Flat names: the prefix of each instance, and the flat name of an element, written into a table.
-// For the floors above: put_zeros, put_name, fill_prefixes, and the sizes of the table of prefixes. They take the name width w, 12 to 64, the shadow, and the rows of the instances.
+// For the floors above: put_zeros, put_name, fill_prefixes, and the sizes of the table of prefixes; name_length, count_underscores, fewest_underscores, for who looks for a prefix and writes none.
+// They take the name width w, 12 to 64, the shadow, and the rows of the instances.
 ghost use mathlib.Core.Path.{_≡_};
 ghost use Prim.Native.Nat.{_+_, _*_, _≤_, _<_, max};
 ghost use mathlib.Core.List.{[], _++_};
@@ -32,12 +33,12 @@ fn row_width(w: usize) -> usize
     4 * w + 8
 }
 
-// How many bytes of row i are filled.
-fn row_length(len: &[u16], i: usize) -> usize
-    requires { ⌜ i < length (now len) ⌝ }
-    ensures { λ r. ⌜ r ≡ getD (now (len .entry)) i 0 ⌝ }
+// The number at i of a table of numbers.
+pub fn number_at(t: &[u16], i: usize) -> usize
+    requires { ⌜ i < length (now t) ⌝ }
+    ensures { λ r. ⌜ r ≡ getD (now (t .entry)) i 0 ⌝ }
 {
-    recipe::wide(len[i])
+    recipe::wide(t[i])
 }
 
 // Writes n times x from `at` on.
@@ -75,7 +76,7 @@ pub fn put_name(
     ensures { λ _. ⌜ now (out .exit) ≡ sets (now (out .entry)) at (padded (flatWidth w) (flatName (recipeAt w (now (s .entry))) (node (getD (instances (recipeAt w (now (s .entry)))) i []) q))) ⌝ }
 {
     let row = row_width(w);
-    let l = row_length(len, i);
+    let l = number_at(len, i);
     names::put_bytes(pre, i * row, l, out, at);
     names::put_bytes(s, q + 1, w, out, at + l);
     put_zeros(out, at + (l + w), row - l);
@@ -92,7 +93,7 @@ fn larger(a: usize, b: usize) -> usize
 }
 
 // How many bytes the name of the record at p has.
-fn name_length(s: &[u8], w: usize, p: usize) -> usize
+pub fn name_length(s: &[u8], w: usize, p: usize) -> usize
     requires { ⌜ p + 1 + w ≤ length (now s) ⌝ }
     ensures { λ r. ⌜ r ≡ length (name (recipeAt w (now (s .entry))) p) ⌝ }
 {
@@ -102,7 +103,7 @@ fn name_length(s: &[u8], w: usize, p: usize) -> usize
 }
 
 // With how many underscores the n bytes from a on begin.
-fn count_underscores(s: &[u8], a: usize, n: usize) -> usize
+pub fn count_underscores(s: &[u8], a: usize, n: usize) -> usize
     requires { ⌜ a + n ≤ length (now s) ⌝ }
     ensures { λ r. ⌜ r ≡ runFirst (take n (drop a (now (s .entry)))) ⌝ }
 {
@@ -153,7 +154,7 @@ fn longest_run(s: &[u8], w: usize, t: &[u16], d: usize, m: usize, n: usize) -> u
 }
 
 // The underscores of the prefix of the submodel m: in one look at the names of the definition that holds it, and of its model.
-fn fewest_underscores(s: &[u8], w: usize, t: &[u16], m: usize) -> usize
+pub fn fewest_underscores(s: &[u8], w: usize, t: &[u16], m: usize) -> usize
     requires { ⌜ Linked (recipeAt w (now s)) (now t) × In m (submodels (recipeAt w (now s)) (holder (recipeAt w (now s)) m)) ⌝ }
     ensures { λ r. ⌜ r ≡ fewest w (namesAround (recipeAt w (now (s .entry))) m) (name (recipeAt w (now (s .entry))) m) ⌝ }
 {
@@ -218,7 +219,7 @@ pub fn fill_prefixes(
     while i < n {
         let m = cell(inst, 6 * i, tree::SUBMODEL_RECORD);
         let u = cell(inst, 6 * i, tree::AROUND);
-        let l = row_length(len, u);
+        let l = number_at(len, u);
         let r = put_row(s, w, t, m, pre, u * row, l, i * row);
         len[i] = r as u16;
         i += 1;
