@@ -20,9 +20,10 @@ use Rattle.recipe.specs.Records.{Recipe, byte, class, parentField}
 use Rattle.recipe.proofs.Definitions.{element-in, in-elements}
 use Rattle.recipe.proofs.Going.{class-low}
 use Rattle.shadow.proofs.Cells.{row-room as cells-room}
+use Rattle.tree.specs.Faults.{fault₇}
 use Rattle.tree.specs.Numbers.{number}
 use Rattle.tree.specs.Tree.{Node, instances, node, parentOf, referenceOf, treeElements}
-use Rattle.tree.proofs.Nodes.{node-eq, parent-in, reference-in}
+use Rattle.tree.proofs.Nodes.{parent-in, reference-in}
 use Rattle.tree.proofs.Resolving.{not-zero}
 use Rattle.marks.specs.Composed.{endOf}
 use Rattle.marks.specs.Marks.{chainEnd, isGone, survivors}
@@ -69,41 +70,25 @@ four-stores out A B C at k f a b =
 
 -- ---- the element of number e, a survivor
 module _ {s : Recipe} {t el pre len : List ℕ} {elems : ℕ} (W : WriterRequires s t el pre len elems) where
-  -- what a row says of the element of number k
+  h₇ : fault₇ s ≡ none
+  h₇ = W .fates .row₇
+
+  -- the element of number k, by its row
   module _ (k : ℕ) (l : k < length (treeElements s)) where
-    at-number : (j : ℕ) → getD el (5 * number s (elementAt s k) + j) 0 ≡ getD el (5 * k + j) 0
-    at-number j = ap (λ (n : ℕ). getD el (5 * n + j) 0) (by.element-number s (W .fates .row₇) k l)
-
     k-tree : In (elementAt s k) (treeElements s)
-    k-tree = by.element-in s (W .fates .row₇) k l
-
-    pub row-room : 5 * k + 5 ≤ length el
-    row-room = omega (arith, W .elements .room)
-
-    pub record-is : {q : ℕ} → q ≡ getD el (5 * k + 0) 0 → q ≡ elementAt s k .place
-    record-is h = h ∙ sym (at-number 0) ∙ W .elements .records (elementAt s k) k-tree
-
-    pub instance-low : {i : ℕ} → i ≡ getD el (5 * k + 1) 0 → i < length (instances s)
-    instance-low {i} h = omega (arith, h, at-number 1, W .elements .within (elementAt s k) k-tree)
-
-    path-is : {i : ℕ} → i ≡ getD el (5 * k + 1) 0 → getD (instances s) i [] ≡ elementAt s k .path
-    path-is {i} h = ap (λ (j : ℕ). getD (instances s) j []) (h ∙ sym (at-number 1)) ∙ W .elements .paths (elementAt s k) k-tree
-
-    site-is : {i q : ℕ} → i ≡ getD el (5 * k + 1) 0 → q ≡ getD el (5 * k + 0) 0 → node (getD (instances s) i []) q ≡ elementAt s k
-    unfolding node
-    site-is h r = node-eq (path-is h) (record-is r)
+    k-tree = by.element-in s h₇ k l
 
     some-record : {q : ℕ} → q ≡ getD el (5 * k + 0) 0 → q ≡ 0 → ⊥
     some-record {q} r z =
         let h = element-held s (elementAt s k) k-tree in
-        not-zero s _ (elementAt s k .place) (h .inside) (sym (record-is r) ∙ z)
+        not-zero s _ (elementAt s k .place) (h .inside) (sym (by.record-is h₇ (W .elements) k l r) ∙ z)
 
     -- its own site
     pub own-site : {i q : ℕ} → i ≡ getD el (5 * k + 1) 0 → q ≡ getD el (5 * k + 0) 0 → siteOf s i q ≡ some (elementAt s k)
-    own-site {i} {q} h r = a-site s i q (some-record r) ∙ ap some (site-is h r)
+    own-site {i} {q} h r = a-site s i q (some-record r) ∙ ap some (by.site-is h₇ (W .elements) k l h r)
 
     pub own-tree : {i q : ℕ} → i ≡ getD el (5 * k + 1) 0 → q ≡ getD el (5 * k + 0) 0 → SiteInTree s i q
-    own-tree h r z = (instance-low h, rw (site-is h r) k-tree)
+    own-tree h r z = (by.instance-low h₇ (W .elements) k l h, rw (by.site-is h₇ (W .elements) k l h r) k-tree)
 
   -- ---- the element of number e, a survivor: its parent, and the end of the chain from its reference
   module _ {e : ℕ} (le : e < length (treeElements s)) where
@@ -112,24 +97,24 @@ module _ {s : Recipe} {t el pre len : List ℕ} {elems : ℕ} (W : WriterRequire
 
     module _ {q : ℕ} (hq : q ≡ getD el (5 * e + 0) 0) where
       pub parent-room : q + 13 ≤ length t
-      parent-room = omega (arith, record-is e le hq, cells-room (W .shadowed) (x .place) (element-held s x (k-tree e le) .placed))
+      parent-room = omega (arith, by.record-is h₇ (W .elements) e le hq, cells-room (W .shadowed) (x .place) (element-held s x (k-tree e le) .placed))
 
       -- its class
       pub class-inside : q + 1 + s .width < length (s .bytes)
       class-inside =
           let h = element-held s x (k-tree e le) in
-          rw (record-is e le hq) (class-low s (x .place) (h .placed) (h .passes))
+          rw (by.record-is h₇ (W .elements) e le hq) (class-low s (x .place) (h .placed) (h .passes))
 
       class-is : getD (s .bytes) (q + 1 + s .width) 0 ≡ class s (x .place)
       unfolding class byte
-      class-is = ap (λ (k : ℕ). getD (s .bytes) (k + 1 + s .width) 0) (record-is e le hq)
+      class-is = ap (λ (k : ℕ). getD (s .bytes) (k + 1 + s .width) 0) (by.record-is h₇ (W .elements) e le hq)
 
       -- its parent
       module _ {i m : ℕ} (hi : i ≡ getD el (5 * e + 1) 0) (hm : m ≡ getD t (q + 3) 0) where
         parent-link : m ≡ Option·getD (elementIn s (x .place) (parentField s (x .place))) 0
         parent-link =
             let h = element-held s x (k-tree e le) in
-            hm ∙ ap (λ (j : ℕ). getD t (j + 3) 0) (record-is e le hq) ∙ W .parents (x .place) (h .placed) (h .passes)
+            hm ∙ ap (λ (j : ℕ). getD t (j + 3) 0) (by.record-is h₇ (W .elements) e le hq) ∙ W .parents (x .place) (h .placed) (h .passes)
 
         pub parent-site : siteOf s i m ≡ parentOf s x
         unfolding parentOf
@@ -140,10 +125,10 @@ module _ {s : Recipe} {t el pre len : List ℕ} {elems : ℕ} (W : WriterRequire
             let is : m ≡ k = parent-link ∙ rw n in
             let in-k = in-elements s (holder s (x .place)) k (element-in s (x .place) (parentField s (x .place)) k n .2) .inside in
             a-site s i m (λ z. not-zero s (holder s (x .place)) k in-k (sym is ∙ z))
-            ∙ rw (n, is) (ap (λ (p : List ℕ). some (node p k)) (path-is e le hi)))
+            ∙ rw (n, is) (ap (λ (p : List ℕ). some (node p k)) (by.path-is h₇ (W .elements) e le hi)))
 
         pub parent-tree : SiteInTree s i m
-        parent-tree z = (instance-low e le hi, parent-in s x (node (getD (instances s) i []) m) (k-tree e le) (sym parent-site ∙ a-site s i m z))
+        parent-tree z = (by.instance-low h₇ (W .elements) e le hi, parent-in s x (node (getD (instances s) i []) m) (k-tree e le) (sym parent-site ∙ a-site s i m z))
 
     -- the end of the chain from its reference
     module _ (alive : isGone s x ≡ false) where
@@ -152,7 +137,7 @@ module _ {s : Recipe} {t el pre len : List ℕ} {elems : ℕ} (W : WriterRequire
       x-survives = keep-in (λ y. not (isGone s y)) (treeElements s) x (k-tree e le) (ap not alive)
 
       end-is : getD el (5 * e + 4) 0 ≡ endOf s x
-      end-is = sym (at-number e le 4) ∙ W .ends x x-survives
+      end-is = sym (by.at-number h₇ (W .elements) e le 4) ∙ W .ends x x-survives
 
       -- none, or the element whose number is one less
       end-cases : {P : Type 0} → (endOf s x ≡ 0 → flatReference s x ≡ none → P)
@@ -167,7 +152,7 @@ module _ {s : Recipe} {t el pre len : List ℕ} {elems : ℕ} (W : WriterRequire
           g (number s (chainEnd s y)) (is .0) (rw (n, endOf)) (rw n (ap some (sym (is .1)))))
 
       pub end-room : 5 * getD el (5 * e + 4) 0 ≤ length el
-      end-room = end-cases (λ z n. omega (arith, end-is)) (λ k l z n. omega (arith, end-is, row-room k l))
+      end-room = end-cases (λ z n. omega (arith, end-is)) (λ k l z n. omega (arith, end-is, by.row-room h₇ (W .elements) k l))
 
       module _ {i m : ℕ} (at : SiteAt el (getD el (5 * e + 4) 0) i m) where
         before-end : (k : ℕ) → endOf s x ≡ k + 1 → getD el (5 * e + 4) 0 - 1 ≡ k

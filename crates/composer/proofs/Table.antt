@@ -142,7 +142,7 @@ module _ (s : Recipe) where
 
     module _ (h₄ : fault₄ s ≡ none) where
       -- ---- "no two records with one name"
-      same-survivor : (x y : Node) → In x (survivors s) → In y (survivors s) → flatField s (some x) ≡ flatField s (some y) → x ≡ y
+      pub same-survivor : (x y : Node) → In x (survivors s) → In y (survivors s) → flatField s (some x) ≡ flatField s (some y) → x ≡ y
       same-survivor x y i j e =
           let a = survivor s x i .0 in
           let b = survivor s y j .0 in
@@ -173,7 +173,7 @@ module _ (s : Recipe) where
           first-is (λ k. same (nameAt s k) f) (recordPlaces s) q j (eq-same (r .name ∙ sym e))
           (λ k i h. one-record k q i j (same-true (nameAt s k) f h ∙ (e ∙ sym (r .name))))
 
-      names-one : (z : Node) → In z (survivors s) → (f : List ℕ) → f ≡ flatField s (some z) → NamesOne s f z
+      pub names-one : (z : Node) → In z (survivors s) → (f : List ℕ) → f ≡ flatField s (some z) → NamesOne s f z
       names-one z k f e =
           let q = place-of z k in
           let n : nameAt s (q .0) ≡ f = q .2 .name ∙ sym e in

@@ -1,5 +1,5 @@
 // Flattening: a recipe's answer, and its flat table, written from the rooms that composing fills.
-// Public calls, which require nothing: flatten; bandrolt_flatten, the same exported to C; flatten_and_check.
+// Public calls, which require nothing: flatten; bandrolt_flatten, the same exported to C; flatten_and_check. For the floors above: field_width, NAME_WIDTH.
 ghost use mathlib.Core.Path.{_≡_};
 ghost use mathlib.Core.List.{_++_};
 ghost use Prim.Native.Nat.{_+_, _*_, _<_, _≤_};
@@ -20,7 +20,7 @@ use marks::RECORD;
 use shadow::cell;
 
 // 01's name width.
-const NAME_WIDTH: usize = 12;
+pub const NAME_WIDTH: usize = 12;
 
 // Flattening's answer: 0, or the number and place of the refusal; the records and bytes written.
 #[repr(C)]
@@ -38,7 +38,7 @@ pub struct Site {
 }
 
 // The bytes of a field of the flat table.
-fn field_width(w: usize) -> usize
+pub fn field_width(w: usize) -> usize
     requires { ⌜ w ≤ 64 ⌝ }
     ensures { λ r. ⌜ r ≡ flatWidth w ⌝ }
 {
