@@ -14,7 +14,8 @@ CRATES = {
     "compose": ["Rows"],
     "flat_names": ["Prefixes"],
     "composer": ["Flat", "Verdicts", "Printed"],
-    "samples": ["Samples"],
+    "origins": ["Origins"],
+    "samples": ["Samples", "Walks"],
 }
 # What is defined by a type of the code: no proof by computation meets it.
 LEFT_OUT = {"fieldOf", "optionalOf"}

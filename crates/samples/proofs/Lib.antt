@@ -1,3 +1,4 @@
 -- The samples hold of the definitions, by computation.
 pub mod Open
 pub mod Starred
+pub mod Walks
