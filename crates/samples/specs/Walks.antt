@@ -58,8 +58,9 @@ walks =
     -- one underscore more, and one fewer
     ∷ unwalked sampleR (flatNameField "a___s") 18 0
     ∷ unwalked sampleR (flatNameField "a_s") 18 0
-    -- the element's own name is not enough
+    -- the element's own name is not enough, nor a name that begins with the flat name
     ∷ unwalked sampleR (flatNameField "s") 18 0
+    ∷ unwalked sampleR (flatNameField "a__sx") 18 0
     -- "as is a name slice of another length": 67 bytes, and 69
     ∷ unwalked sampleR (padded 67 (characters "a__s")) 18 0
     ∷ unwalked sampleR (padded 69 (characters "a__s")) 18 0

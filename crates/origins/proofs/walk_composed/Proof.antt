@@ -1,6 +1,7 @@
 -- `origins::walk_composed` meets its contract: 18 for a name of another length and for one that no survivor has, else the origin that was found.
 -- Assumes nothing.
 use mathlib.Core.Path.{_∙_, sym}
+use native.Mathlib.Omega.{arith}
 use Rattle.origins.proofs.Answers.{no-origin, origin-found, origin-requires, other-length, search-requires}
 use borrow.Author.Needs.{needs}
 use Rattle.origins.proofs.walk_composed.Statement.{statement}
@@ -9,7 +10,7 @@ use Rattle.origins.proofs.walk_composed.Tie as tie
 returns : tie.Need-returns
 returns c =
     let at-if1 = c .before in let at-field-width = at-if1 .before in let at-start = at-field-width .before .before .before .before .before .before in
-    c .refusal .ensures ∙ other-length (at-start .pre) (at-start .args .name .now) (at-field-width .field-width .ensures) (at-if1 .if1 .taken)
+    c .refusal .ensures ∙ other-length (at-start .pre) (at-start .args .name .now) (at-field-width .field-width .ensures) (λ q. omega (arith, at-if1 .if1 .taken))
 
 find-origin-requires : tie.Need-find-origin-requires
 find-origin-requires c κs =
