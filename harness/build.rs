@@ -3,7 +3,7 @@
 
 use std::{env, path::Path};
 
-const ARCHIVES: [&str; 2] = ["composer", "flat_table"];
+const ARCHIVES: [&str; 3] = ["composer", "flat_table", "origins"];
 
 fn main() {
     println!("cargo:rerun-if-env-changed=BANDROLT_LIB");

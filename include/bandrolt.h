@@ -1,5 +1,6 @@
-/* Bandrolt's calls, for C99 and C++; link with libcomposer.a and libflat_table.a.
-   They flatten a recipe, and tell whether a flat table is closed, as document 01 says it. */
+/* Bandrolt's calls, for C99 and C++; link with libcomposer.a, libflat_table.a and liborigins.a.
+   They flatten a recipe, tell whether a flat table is closed, and walk back from a flat name to the recipe's records,
+   as documents 01 and 02 say it. */
 
 #ifndef BANDROLT_H
 #define BANDROLT_H
@@ -89,6 +90,36 @@ typedef struct bandrolt_answer {
 #define BANDROLT_FLATTEN_STACK 131072
 
 bandrolt_answer bandrolt_flatten(const uint8_t *recipe, size_t length, uint8_t *table, size_t room);
+
+typedef struct bandrolt_origin {
+    uint64_t number;      /* 0, or else as bandrolt_flatten without 13, or 18 */
+    uint64_t place;       /* offset of the record at fault, or 0 */
+    uint64_t depth;       /* how many of the submodels are used, 0 to 4 */
+    uint64_t submodel[4]; /* offsets of the submodel records, from main downward; unused ones 0 */
+    uint64_t element;     /* offset of the element record */
+} bandrolt_origin;
+
+/* Walks back from the `name_length` bytes at `name`, a flat name as in a flat record, zero padded to 68 bytes, to the
+   records of the `length` bytes at `recipe` that it comes from.
+
+   The name of a flat record of this recipe gives number 0, place 0 and its element's origin: how many submodels it lies
+   in, the offsets of their records' kind bytes from main downward, and that of the element's record. Every flat record's
+   name has one, each another, and flattening names that element so again. Unused offsets are 0.
+
+   Any other recipe or name gives depth and all offsets 0, and the lowest of these numbers that applies, with its lowest
+   place:
+
+     1 to 12: the recipe is refused, whatever the name; the places are those of bandrolt_flatten. 13 doesn't apply;
+     18, at 0: the recipe is accepted, and the name is no flat record's: `name_length` is not 68, or the 68 bytes, the
+        zeros behind the name among them, are in no flat record as its name. The name of an element that is gone is
+        none, nor is a blank. A name is never cut or padded to fit.
+
+   The call reads the recipe and the name alone, writes nothing, ends on all input, keeps no state and allocates
+   nothing. Each of the two may be null only with length 0. It needs less than BANDROLT_WALK_BACK_STACK bytes of
+   stack. */
+#define BANDROLT_WALK_BACK_STACK 131072
+
+bandrolt_origin bandrolt_walk_back(const uint8_t *recipe, size_t length, const uint8_t *name, size_t name_length);
 
 #ifdef __cplusplus
 }

@@ -1,5 +1,5 @@
 //! The library's calls, made safe to call from Rust.
-//! This file uses nothing else of the harness: copy it into a program that links libcomposer.a and libflat_table.a.
+//! This file uses nothing else of the harness: copy it into a program that links libcomposer.a, libflat_table.a and liborigins.a.
 
 /// What flattening answers, laid out as `bandrolt_answer` in bandrolt.h.
 ///
@@ -26,8 +26,23 @@ pub struct TableAnswer {
     pub count: u64,
 }
 
+/// What the walk back answers, laid out as `bandrolt_origin` in bandrolt.h.
+///
+/// A survivor's flat name has number 0, place 0, the depth, so many offsets of submodel records from main downward,
+/// and the offset of the element record; the other offsets are 0. A refusal has its number, 1 to 12 or 18, the place
+/// of that, and all else 0.
+#[repr(C)]
+#[derive(Clone, Copy, Debug, Default, PartialEq, Eq)]
+pub struct Origin {
+    pub number: u64,
+    pub place: u64,
+    pub depth: u64,
+    pub submodel: [u64; 4],
+    pub element: u64,
+}
+
 mod c {
-    use super::{Answer, TableAnswer};
+    use super::{Answer, Origin, TableAnswer};
 
     extern "C" {
         pub fn bandrolt_flatten(
@@ -37,6 +52,12 @@ mod c {
             room: usize,
         ) -> Answer;
         pub fn bandrolt_check_table(table: *const u8, length: usize) -> TableAnswer;
+        pub fn bandrolt_walk_back(
+            recipe: *const u8,
+            length: usize,
+            name: *const u8,
+            name_length: usize,
+        ) -> Origin;
     }
 }
 
@@ -59,4 +80,10 @@ pub fn flatten(recipe: &[u8], table: &mut [u8]) -> Answer {
 pub fn check_table(table: &[u8]) -> TableAnswer {
     // SAFETY: pointer and length are those of a slice, which the call reads and doesn't keep.
     unsafe { c::bandrolt_check_table(table.as_ptr(), table.len()) }
+}
+
+/// Walks back from a flat name to the records of a recipe; both of any bytes and any length.
+pub fn walk_back(recipe: &[u8], name: &[u8]) -> Origin {
+    // SAFETY: pointers and lengths are those of two slices, which the call reads and doesn't keep.
+    unsafe { c::bandrolt_walk_back(recipe.as_ptr(), recipe.len(), name.as_ptr(), name.len()) }
 }
