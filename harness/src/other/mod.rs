@@ -1,4 +1,4 @@
-//! The other program: the table check and flattening once more, written from document 01 alone.
+//! The other program: the table check, flattening and the walk back once more, written from documents 01 and 02 alone.
 //! `table` and `recipe` are the program; `rules` and `recipe::rules` are slow ones that can be bent.
 
 mod classes;
@@ -6,7 +6,8 @@ pub mod recipe;
 pub mod rules;
 pub mod table;
 
-use crate::bandrolt::{Answer, TableAnswer};
+use crate::bandrolt::{Answer, Origin, TableAnswer};
+use std::array::from_fn;
 
 /// The length of a recipe's name field.
 pub const NAME: usize = 12;
@@ -64,6 +65,33 @@ impl From<Verdict> for TableAnswer {
             number: answer.number,
             place: answer.place,
             count: answer.count,
+        }
+    }
+}
+
+/// From main to an element of the tree: the places of the submodel records, and of the element record.
+#[derive(Clone)]
+pub struct Route {
+    pub submodels: Vec<usize>,
+    pub element: usize,
+}
+
+impl From<Result<Route, Refusal>> for Origin {
+    /// "Unused offsets are 0; on a refusal depth and all offsets are."
+    fn from(walked: Result<Route, Refusal>) -> Self {
+        match walked {
+            Ok(Route { submodels, element }) => Origin {
+                number: 0,
+                place: 0,
+                depth: submodels.len() as u64,
+                submodel: from_fn(|i| submodels.get(i).map_or(0, |&place| place as u64)),
+                element: element as u64,
+            },
+            Err(Refusal { number, place }) => Origin {
+                number,
+                place: place as u64,
+                ..Origin::default()
+            },
         }
     }
 }

@@ -31,6 +31,7 @@ pub struct Element {
 }
 
 pub struct Submodel {
+    pub place: usize,
     pub name: Name,
     pub model: usize,
 }
@@ -216,7 +217,7 @@ fn add(record: &Record, names: &Names, definitions: &mut Vec<Definition>) -> Opt
         }
         Body::Submodel { name, model } => {
             let model = *names.models.get(&model)?;
-            definition.submodels.push(Submodel { name, model });
+            definition.submodels.push(Submodel { place, name, model });
         }
         Body::Port {
             submodel, target, ..

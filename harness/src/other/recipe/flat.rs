@@ -11,14 +11,15 @@ use std::collections::HashMap;
 
 /// A flat model, ready to be written.
 pub struct Flat {
-    recipe: Recipe,
-    tree: Tree,
-    survivors: Vec<Survivor>,
+    pub(super) recipe: Recipe,
+    pub(super) tree: Tree,
+    /// In tree order, so in order of their numbers.
+    pub(super) survivors: Vec<Survivor>,
 }
 
-struct Survivor {
+pub(super) struct Survivor {
     class: Class,
-    element: usize,
+    pub(super) element: usize,
     parent: Option<usize>,
     /// The end of the chain from its reference.
     reference: Option<usize>,
@@ -106,7 +107,7 @@ impl Flat {
     }
 
     /// For each instance what its flat names begin with: "the prefixes from main downward".
-    fn prefixes(&self) -> Vec<Vec<u8>> {
+    pub(super) fn prefixes(&self) -> Vec<Vec<u8>> {
         let definitions = &self.recipe.definitions;
         let runs: Vec<Runs> = definitions.iter().map(underscores).collect();
         let mut prefixes: Vec<Vec<u8>> = Vec::with_capacity(self.tree.instances.len());

@@ -1,9 +1,10 @@
-//! The other program's flattening: 01 as one would write it in Rust, with hash maps for names.
+//! The other program's flattening and walk back: 01 and 02 as one would write them in Rust, with hash maps for names.
 //! It is what the library is compared with. `slow` stands beside it, and follows rules that can be bent.
 
 mod definitions;
 mod flat;
 mod marks;
+mod origin;
 mod records;
 pub mod rules;
 pub mod slow;
@@ -11,7 +12,7 @@ mod targets;
 mod tree;
 
 use super::Refusal;
-use crate::bandrolt::Answer;
+use crate::bandrolt::{Answer, Origin};
 use flat::Flat;
 use marks::Fates;
 use targets::Targets;
@@ -36,4 +37,9 @@ pub fn flatten(recipe: &[u8], table: &mut [u8]) -> Answer {
         Ok(flat.count())
     });
     written.into()
+}
+
+/// Where a flat name comes from.
+pub fn walk_back(recipe: &[u8], name: &[u8]) -> Origin {
+    judge(recipe).and_then(|flat| flat.walk_back(name)).into()
 }
