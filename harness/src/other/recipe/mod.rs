@@ -10,10 +10,11 @@ pub mod rules;
 pub mod slow;
 mod targets;
 mod tree;
+pub mod walkers;
 
 use super::Refusal;
 use crate::bandrolt::{Answer, Origin};
-use flat::Flat;
+pub use flat::Flat;
 use marks::Fates;
 use targets::Targets;
 use tree::Tree;

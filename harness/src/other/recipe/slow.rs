@@ -1,11 +1,12 @@
-//! 01's flattening word by word and slowly, by rules that can be bent one at a time.
+//! 01's flattening word by word and slowly, by rules that can be bent one at a time, and the elements that `walkers` find.
 //! It shares nothing with the other program but a few lengths.
 
 use super::rules::{ReplacedBy, Rules, TreeOrder};
 use crate::bandrolt::Answer;
 use crate::other::rules::{before_zero, Row};
-use crate::other::{Refusal, FIELD, NAME, RECORD};
+use crate::other::{Refusal, Route, FIELD, NAME, RECORD};
 use std::collections::{BTreeSet, HashSet};
+use std::iter::successors;
 use Part::*;
 
 /// What a record is.
@@ -202,6 +203,27 @@ pub fn conflicts(recipe: &[u8]) -> BTreeSet<(Conflict, bool)> {
         }
         _ => BTreeSet::new(),
     }
+}
+
+/// An element of the tree, with what the walk back goes by and what it gives.
+pub struct Element {
+    /// The names of its submodels from main downward, and its own.
+    pub parts: Vec<String>,
+    pub flat_name: Vec<u8>,
+    pub is_gone: bool,
+    pub route: Route,
+}
+
+/// All elements of a recipe's tree, in tree order.
+pub fn elements(recipe: &[u8]) -> Result<Vec<Element>, Refusal> {
+    let rules = Rules::default();
+    let mut reading = Reading::new(recipe, &rules)?;
+    reading.judge()?;
+    let prefixes = reading.prefixes();
+    let spots = reading.elements.iter();
+    Ok(spots
+        .map(|&spot| reading.element(spot, &prefixes))
+        .collect())
 }
 
 impl Rules {
@@ -679,7 +701,7 @@ impl<'a> Reading<'a> {
     fn levels_below(&self, instance: usize, other: usize) -> Option<isize> {
         let up = |from: usize, to: usize| {
             let above = |&at: &usize| self.instances[at].above.map(|(above, _)| above);
-            let mut way = std::iter::successors(Some(from), above);
+            let mut way = successors(Some(from), above);
             way.position(|at| at == to).map(|levels| levels as isize)
         };
         up(instance, other).or_else(|| up(other, instance).map(|levels| -levels))
@@ -823,19 +845,47 @@ impl<'a> Reading<'a> {
             .unwrap_or_else(|| with(*self.rules.underscores.end()))
     }
 
+    fn prefixes(&self) -> Vec<Vec<u8>> {
+        (0..self.instances.len()).map(|i| self.prefix(i)).collect()
+    }
+
+    /// The instances below main down to this one, each with its submodel in the one above.
+    fn way(&self, instance: usize) -> Vec<(usize, Spot)> {
+        let step = |at: usize| Some((at, self.instances[at].above?));
+        let up = successors(step(instance), |&(_, (above, _))| step(above));
+        let mut way: Vec<(usize, Spot)> = up.collect();
+        way.reverse();
+        way
+    }
+
     fn flat_name(&self, spot: Spot, prefixes: &[Vec<u8>]) -> Vec<u8> {
-        let mut way = Vec::new();
-        let mut at = spot.0;
-        while let Some((above, submodel)) = self.instances[at].above {
+        let way = self.way(spot.0);
+        let is_written = |&number: &usize| {
+            let (_, (above, submodel)) = way[number];
             let mut submodels = self.submodels(self.instances[above].model);
-            way.insert(0, (at, submodels.position(|s| s == submodel).unwrap_or(0)));
-            at = above;
-        }
-        let is_written = |&number: &usize| (self.rules.prefixed)(number, way.len(), way[number].1);
+            let position = submodels.position(|s| s == submodel).unwrap_or(0);
+            (self.rules.prefixed)(number, way.len(), position)
+        };
         let numbers = (0..way.len()).filter(is_written);
         let mut name: Vec<u8> = numbers.flat_map(|i| prefixes[way[i].0].clone()).collect();
         name.extend(self.records[spot.1].first);
         name
+    }
+
+    fn element(&self, spot: Spot, prefixes: &[Vec<u8>]) -> Element {
+        let way = self.way(spot.0).into_iter();
+        let submodels: Vec<usize> = way.map(|(_, (_, submodel))| submodel).collect();
+        let name = |&i: &usize| String::from_utf8_lossy(self.records[i].first).into_owned();
+        let place = |i: usize| self.records[i].place;
+        Element {
+            parts: submodels.iter().chain([&spot.1]).map(name).collect(),
+            flat_name: self.flat_name(spot, prefixes),
+            is_gone: self.gone.contains(&spot),
+            route: Route {
+                submodels: submodels.into_iter().map(place).collect(),
+                element: place(spot.1),
+            },
+        }
     }
 
     fn write(&self, table: &mut [u8]) -> Result<usize, Refusal> {
@@ -850,7 +900,7 @@ impl<'a> Reading<'a> {
                 place: 0,
             });
         }
-        let prefixes: Vec<Vec<u8>> = (0..self.instances.len()).map(|i| self.prefix(i)).collect();
+        let prefixes = self.prefixes();
         let written = match self.rules.nothing_is_written {
             true => &[],
             false => &survivors[..],
