@@ -1,9 +1,31 @@
-//! What the programs that check have in common: the tally at their end, what is counted on the way,
-//! the seed of the clock, and a file for what differs.
+//! What the programs that check have in common: what they are asked, the tally at their end, what is counted on the
+//! way, the seed of the clock, and a file for what differs.
 
 use std::collections::BTreeMap;
 use std::process::ExitCode;
 use std::time::{SystemTime, UNIX_EPOCH};
+
+/// How much a program is to check: few cases, for valgrind, or all, with the second random set of this seed.
+pub enum Asked {
+    Few,
+    All(u64),
+}
+
+/// What the arguments `[SEED]` or `few` ask for. Other arguments are answered with the status that comes back.
+pub fn asked(program: &str) -> Result<Asked, ExitCode> {
+    let arguments: Vec<String> = std::env::args().skip(1).collect();
+    let arguments: Vec<&str> = arguments.iter().map(String::as_str).collect();
+    let asked = match arguments[..] {
+        [] => Some(Asked::All(seed_from_clock())),
+        ["few"] => Some(Asked::Few),
+        [seed] => seed.parse().ok().map(Asked::All),
+        _ => None,
+    };
+    asked.ok_or_else(|| {
+        eprintln!("usage: {program} [SEED] | {program} few");
+        ExitCode::from(2)
+    })
+}
 
 #[derive(Default)]
 pub struct Tally {

@@ -13,7 +13,7 @@ use harness::recipes::generate::case;
 use harness::recipes::named::{edges, examples, to_try, Named};
 use harness::recipes::proved::{self, Sample, TableSample};
 use harness::recipes::{printed, text};
-use harness::report::{are_often, save, seed_from_clock, Tally};
+use harness::report::{are_often, asked, save, Asked, Tally};
 use std::collections::{BTreeMap, BTreeSet};
 use std::ops::RangeInclusive;
 use std::process::ExitCode;
@@ -32,22 +32,11 @@ const LEAST_OF_A_CONFLICT: usize = 250;
 const LEAST_TOLD_BY_PROVED: usize = 80;
 
 fn main() -> ExitCode {
-    let arguments: Vec<String> = std::env::args().skip(1).collect();
-    let arguments: Vec<&str> = arguments.iter().map(String::as_str).collect();
-    match arguments[..] {
-        [] => check(seed_from_clock()),
-        ["few"] => check_few(),
-        [seed] => match seed.parse() {
-            Ok(seed) => check(seed),
-            Err(_) => usage(),
-        },
-        _ => usage(),
+    match asked("recipes") {
+        Ok(Asked::Few) => check_few(),
+        Ok(Asked::All(seed)) => check(seed),
+        Err(status) => status,
     }
-}
-
-fn usage() -> ExitCode {
-    eprintln!("usage: recipes [SEED] | recipes few");
-    ExitCode::from(2)
 }
 
 /// What the recipes of one set have shown.
