@@ -1,5 +1,5 @@
 //! The comparison of one recipe: a check for each exported call that takes recipes.
-//! A call is added by an entry in `CHECKS`.
+//! A call is added by an entry in `CHECKS`; the walk back, which takes names, too, has `walks`.
 
 use crate::bandrolt::{check_table, flatten, Answer, TableAnswer};
 use crate::other::recipe::rules::Rules;

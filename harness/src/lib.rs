@@ -10,3 +10,4 @@ pub mod recipes;
 pub mod report;
 pub mod tables;
 pub mod timing;
+pub mod walks;

@@ -180,6 +180,25 @@ pub fn prefixes(random: &Random) -> Draft {
     shuffled(&recipe, random)
 }
 
+/// Three or four levels of submodels, with any names.
+pub fn deep(random: &Random) -> Draft {
+    let naming = random.pick(&NAMINGS);
+    let depth = 3 + random.below(2);
+    let one = |level: usize| {
+        let submodels = if level < depth {
+            1 + random.below(2)
+        } else {
+            0
+        };
+        let submodels = vec![format!("m{}", level + 1); submodels];
+        let classes = classes(random.below(4), random);
+        definition(&format!("m{level}"), &classes, &submodels, naming, random)
+    };
+    let mut draft = Draft((0..=depth).map(one).collect());
+    draft.shuffle(random);
+    draft
+}
+
 /// Trees that hit a limit or pass it by one.
 pub fn limits(random: &Random) -> Draft {
     // The number of submodels on each level; all but the last row make 64 instances.

@@ -1,5 +1,5 @@
 //! Recipes that follow from a seed: valid ones, nearly valid ones, and bytes that are none.
-//! `case` is the mix of them that the programs are compared on.
+//! `case` is the mix of them that the programs are compared on; `deep` has the longest ways to walk back.
 
 use super::aimed;
 use super::damage::{
@@ -45,6 +45,13 @@ pub fn case(random: &Random) -> Vec<u8> {
         70..=93 => faulty(grown(random), 1, OF_MARKS, random),
         _ => faulty(aimed::reactions(random), 1, &[replaced_by_gone], random),
     }
+}
+
+/// A recipe with a deep tree, accepted nearly always.
+pub fn deep(random: &Random) -> Vec<u8> {
+    let mut draft = aimed::deep(random);
+    draft.grow(random.below(8), random);
+    draft.encode()
 }
 
 /// Accepted, nearly always.

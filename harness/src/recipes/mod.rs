@@ -1,10 +1,11 @@
 //! Recipes as records and as bytes.
-//! `text` writes them for people; the other files make them, one by one or from a seed.
+//! `text` writes them for people; the other files make them, one by one or from a seed, and names to walk back in them.
 
 pub mod aimed;
 pub mod damage;
 pub mod draft;
 pub mod enumerate;
+pub mod flat_names;
 pub mod generate;
 pub mod named;
 pub mod proved;
