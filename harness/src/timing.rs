@@ -1,5 +1,5 @@
-//! Times two programs beside each other on the same inputs, in one run, and prints a row for each size of them.
-//! They take turns, so that what else the machine does falls on both.
+//! Times programs beside each other on the same inputs, in one run, and prints a row for each size of them.
+//! They take turns, so that what else the machine does falls on all.
 
 use std::hint::black_box;
 use std::time::Instant;
@@ -39,12 +39,15 @@ pub fn print_series<A>(
 }
 
 /// Each program's microseconds for one input, in its best round.
-fn times<A>(programs: &mut Pair<impl FnMut(&[u8]) -> A>, inputs: &[Vec<u8>]) -> [f64; 2] {
+pub fn times<A, const N: usize>(
+    programs: &mut [impl FnMut(&[u8]) -> A; N],
+    inputs: &[Vec<u8>],
+) -> [f64; N] {
     let mut repeats = 1;
     while batch(&mut programs[1], inputs, repeats) < BATCH_SECONDS {
         repeats *= 2;
     }
-    let mut best = [f64::INFINITY; 2];
+    let mut best = [f64::INFINITY; N];
     for _ in 0..ROUNDS {
         for (best, program) in best.iter_mut().zip(&mut *programs) {
             *best = best.min(batch(program, inputs, repeats));

@@ -3,6 +3,7 @@
 
 use harness::bandrolt::{flatten, Answer};
 use harness::other::{recipe, RECORD};
+use harness::recipes::sized::{one_definition, plant, tree};
 use harness::recipes::text::{parse, parse_example};
 use harness::tables::MAX_RECORDS;
 use harness::timing::{print_head, print_series, Pair};
@@ -53,12 +54,12 @@ const FAMILIES: [Family; 15] = [
     family("11 in common", "instances", INSTANCES, |instances| {
         tree(instances, "common_stem")
     }),
-    family("one definition", "elements", &[100, 200, 400], |elements| {
-        let species: String = (1..elements)
-            .map(|i| format!("species s{i} -> v\n"))
-            .collect();
-        format!("model top\ncompartment v\n{species}")
-    }),
+    family(
+        "one definition",
+        "elements",
+        &[100, 200, 400],
+        one_definition,
+    ),
     family("8 in common", "KB", KILOBYTES, |kb| {
         filled(kb, common, nothing)
     }),
@@ -159,49 +160,6 @@ fn inner(i: usize) -> String {
 fn common(i: usize) -> String {
     let first = if i == 0 { "model m\n" } else { "" };
     format!("{first}compartment abcdefgh{i:04}\n")
-}
-
-/// A hall with reactors of 8 elements, each of them in the hall's volume and at its temperature.
-fn plant(instances: usize) -> String {
-    let reactors: String = (1..instances)
-        .map(|i| {
-            format!(
-                "submodel unit{i} of reactor
-                 replace unit{i}:volume by hall
-                 replace unit{i}.heat by heat\n"
-            )
-        })
-        .collect();
-    format!(
-        "model plant
-         compartment hall\nspecies broth -> hall\nspecies feed -> hall\nparameter heat\nparameter flow
-         reaction dilute -> hall\nspecies-reference d in dilute -> feed\nrate-rule growth -> broth
-         {reactors}
-         model reactor
-         compartment v\nspecies biomass -> v\nspecies sugar -> v\nparameter heat\nparameter k
-         reaction grow -> v\nspecies-reference q in grow -> sugar\nlocal-parameter rate in grow
-         port volume = .v"
-    )
-}
-
-/// Main, and below it submodels with eight submodels each; 16 elements in every instance, named by a stem and a digit.
-fn tree(instances: usize, stem: &str) -> String {
-    let species: String = (1..=10)
-        .map(|i| format!("species @{i:x} -> @0\n"))
-        .collect();
-    let elements = format!(
-        "compartment @0\n{species}parameter @b\nreaction @c -> @0\nspecies-reference @d in @c -> @1
-         rate-rule @e -> @b\nlocal-parameter @f in @c\n"
-    );
-    let elements = elements.replace('@', stem);
-    let submodels = |count: usize, model: &str| -> String {
-        (0..count)
-            .map(|i| format!("submodel sub{i} of {model}\n"))
-            .collect()
-    };
-    let main = submodels((instances - 1) / 9, "mid");
-    let mid = submodels(8, "low");
-    format!("model top\n{elements}{main}model mid\n{elements}{mid}model low\n{elements}")
 }
 
 /// Ports and marks that are accepted: 48 leaves, whose elements have a port on three levels, and deletions

@@ -9,6 +9,7 @@ pub mod flat_names;
 pub mod generate;
 pub mod named;
 pub mod proved;
+pub mod sized;
 pub mod text;
 
 use crate::bandrolt::Answer;

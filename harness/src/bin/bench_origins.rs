@@ -1,0 +1,60 @@
+//! Times the library's walk back beside the other program's, and beside the library's flattening of the same recipe.
+//! It prints microseconds for one walk and judges nothing.
+
+use harness::bandrolt::{flatten, walk_back, Origin};
+use harness::other::{recipe, FIELD, RECORD};
+use harness::recipes::sized::{long_names, one_definition, plant, tree};
+use harness::recipes::text::parse;
+use harness::tables::MAX_RECORDS;
+use harness::timing::times;
+
+const ROOM: usize = MAX_RECORDS * RECORD;
+
+type WalkBack = fn(&[u8], &[u8]) -> Origin;
+
+fn main() {
+    println!(
+        "{:<50}{:>12}{:>12}{:>8}{:>16}{:>8}",
+        "walking back", "ours, us", "other, us", "ratio", "flattening, us", "ratio"
+    );
+    print_rows("a plant, 64 instances", &plant(64));
+    print_rows("16 elements each, 64 instances", &tree(64, "e"));
+    print_rows("one definition, 400 elements", &one_definition(400));
+    print_rows("60 of 68 bytes in common, 400 elements", &long_names(400));
+}
+
+/// A row for the first name of a recipe's table, for the last, and for one that is nearly the last.
+fn print_rows(what: &str, recipe: &str) {
+    let recipe = parse(recipe).expect("a recipe");
+    let mut table = vec![0; ROOM];
+    let answer = flatten(&recipe, &mut table);
+    let name = |record: usize| table[record * RECORD + 1..][..FIELD].to_vec();
+    let last = name(answer.count as usize - 1);
+    let mut absent = last.clone();
+    let end = absent.iter().rposition(|&b| b != 0).expect("a name");
+    absent[end] = b'_';
+    print_row(&format!("{what}, first"), &recipe, &name(0), 0);
+    print_row(&format!("{what}, last"), &recipe, &last, 0);
+    print_row(&format!("{what}, absent"), &recipe, &absent, 18);
+}
+
+fn print_row(what: &str, recipe: &[u8], name: &[u8], number: u64) {
+    let walkers: [WalkBack; 2] = [walk_back, recipe::walk_back];
+    let [ours, other] = walkers.map(|walk_back| walk_back(recipe, name));
+    assert_eq!(ours, other, "the programs answer the same");
+    assert_eq!(ours.number, number, "{what}");
+    let mut table = vec![0; ROOM];
+    let [ours, other] =
+        walkers.map(|walk_back| move |recipe: &[u8]| walk_back(recipe, name).number);
+    let mut programs: [Box<dyn FnMut(&[u8]) -> u64>; 3] = [
+        Box::new(ours),
+        Box::new(other),
+        Box::new(|recipe| flatten(recipe, &mut table).number),
+    ];
+    let [ours, other, flattening] = times(&mut programs, &[recipe.to_vec()]);
+    println!(
+        "{what:<50}{ours:>12.3}{other:>12.3}{:>8.2}{flattening:>16.3}{:>8.2}",
+        ours / other,
+        ours / flattening
+    );
+}
