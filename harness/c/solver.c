@@ -1,4 +1,5 @@
-/* Plays the solver: has recipes flattened and the tables checked, and hands tables of its own to the check.
+/* Plays the solver: has recipes flattened and the tables checked, hands tables of its own to the check, and asks where
+   flat names come from.
    `solver` compares the answers with 01's; `solver recipe FILE` flattens the bytes of a recipe and checks the table,
    `solver table FILE` checks a table; both have status 1 if it is refused. */
 
@@ -164,6 +165,53 @@ static void flatten_own_recipes(void)
     expect_flat("sample R with a deletion", &deletion, 1000, 12, 153, NULL, 0);
 }
 
+/* Walks back a text that is padded to `name_length` bytes, 69 at most. */
+static void expect_origin(const char *what, const recipe *r, const char *text, size_t name_length,
+                          bandrolt_origin expected)
+{
+    /* Blocks with no byte to spare, as above. */
+    uint8_t *given = r->length > 0 ? allocate(r->length) : NULL;
+    uint8_t *name = name_length > 0 ? allocate(name_length) : NULL;
+    uint8_t before[FIELD + 1] = { 0 };
+    int holds;
+
+    memcpy(before, text, strlen(text));
+    if (given != NULL) memcpy(given, r->bytes, r->length);
+    if (name != NULL) memcpy(name, before, name_length);
+    bandrolt_origin origin = bandrolt_walk_back(given, r->length, name, name_length);
+    holds = memcmp(&origin, &expected, sizeof origin) == 0;
+    holds = holds && (given == NULL || memcmp(given, r->bytes, r->length) == 0);
+    holds = holds && (name == NULL || memcmp(name, before, name_length) == 0);
+    free(given);
+    free(name);
+
+    if (holds) {
+        passed++;
+    } else {
+        failed++;
+        printf("FAILED: %s: number %" PRIu64 ", place %" PRIu64 ", depth %" PRIu64 ", element %" PRIu64 "\n", what,
+               origin.number, origin.place, origin.depth, origin.element);
+    }
+}
+
+static void walk_back_in_own_recipes(void)
+{
+    static const recipe empty;
+    static recipe sample_r;
+    const bandrolt_origin no_survivor = { .number = 18 };
+
+    put_sample_r(&sample_r);
+    expect_origin("a__s", &sample_r, "a__s", FIELD, (bandrolt_origin){ 0, 0, 1, { 51, 0, 0, 0 }, 165 });
+    expect_origin("c", &sample_r, "c", FIELD, (bandrolt_origin){ 0, 0, 0, { 0, 0, 0, 0 }, 13 });
+    expect_origin("a__v, which is gone", &sample_r, "a__v", FIELD, no_survivor);
+    expect_origin("a___s", &sample_r, "a___s", FIELD, no_survivor);
+    expect_origin("67 bytes", &sample_r, "a__s", FIELD - 1, no_survivor);
+    expect_origin("69 bytes", &sample_r, "a__s", FIELD + 1, no_survivor);
+    expect_origin("a blank", &sample_r, "", FIELD, no_survivor);
+    expect_origin("null for the name", &sample_r, "", 0, no_survivor);
+    expect_origin("null for both", &empty, "", 0, (bandrolt_origin){ .number = 1 });
+}
+
 /* Reads a whole file into a block of its length, or null for an empty one. */
 static uint8_t *read_file(const char *path, size_t *length)
 {
@@ -236,6 +284,7 @@ int main(int argc, char **argv)
     }
     check_own_tables();
     flatten_own_recipes();
+    walk_back_in_own_recipes();
     printf("%d passed, %d failed\n", passed, failed);
     return failed > 0;
 }

@@ -10,7 +10,7 @@
 #include "bandrolt.h"
 #include "recipe.h"
 
-enum { STACK = 1 << 22, PATTERN = 0xA5, RECORD = 205, MOST = 1024, LEVELS = 215, MODELS = 431 };
+enum { STACK = 1 << 22, PATTERN = 0xA5, FIELD = 68, RECORD = 205, MOST = 1024, LEVELS = 215, MODELS = 431 };
 
 static uint8_t table[RECORD * MOST], output[RECORD * MOST];
 static recipe cycle, ports, sample_r;
@@ -68,6 +68,17 @@ static void *flatten(void *holds) {
     return NULL;
 }
 
+static void *walk_back(void *holds) {
+    static const uint8_t name[FIELD] = "a__s";
+    bandrolt_origin origin = bandrolt_walk_back(cycle.bytes, cycle.length, name, FIELD);
+    *(int *)holds = origin.number == 6 && origin.place == 0;
+    origin = bandrolt_walk_back(ports.bytes, ports.length, name, FIELD);
+    *(int *)holds &= origin.number == 18 && origin.place == 0;
+    origin = bandrolt_walk_back(sample_r.bytes, sample_r.length, name, FIELD);
+    *(int *)holds &= origin.number == 0 && origin.depth == 1 && origin.element == 165;
+    return NULL;
+}
+
 static void *nothing(void *unused) { return unused; }
 
 /* The bytes of a fresh stack that a thread leaves touched. */
@@ -104,6 +115,7 @@ int main(void) {
     fill_recipes();
     passed = measure("bandrolt_check_table", check_table, BANDROLT_CHECK_TABLE_STACK);
     passed += measure("bandrolt_flatten", flatten, BANDROLT_FLATTEN_STACK);
-    printf("%d passed, %d failed\n", passed, 2 - passed);
-    return passed != 2;
+    passed += measure("bandrolt_walk_back", walk_back, BANDROLT_WALK_BACK_STACK);
+    printf("%d passed, %d failed\n", passed, 3 - passed);
+    return passed != 3;
 }
