@@ -1,11 +1,12 @@
 # Bandrolt: try it, run it, test it, measure it. What each target needs is said if it is missing.
-LIBRARIES = composer flat_table
+LIBRARIES = composer flat_table origins
 ARCHIVES = $(LIBRARIES:%=target/staticlib/lib%.a)
 PROGRAM = target/bin/bandrolt
 SOURCES = crates.txt $(shell find crates -name '*.rt' -o -name '*.antt')
 BUILD = harness/target
 CC_FLAGS = -std=c11 -Wall -Wextra -Werror -O2 -Iinclude
-CARGO = cargo run --quiet --offline --release --manifest-path harness/Cargo.toml --bin
+HARNESS = --quiet --offline --release --manifest-path harness/Cargo.toml
+CARGO = cargo run $(HARNESS) --bin
 # Two rt in one target folder would disturb each other; so each waits for the other, also under make -j.
 RT = flock target/rt.lock rt
 
@@ -31,6 +32,12 @@ TABLE = examples/sample-r.table
 table: $(BUILD)/solver
 	@$(BUILD)/solver table "$(TABLE)"
 
+# Where a flat name comes from, in words: through which submodels of sample R, or of RECIPE=file, to which element.
+NAME = a__s
+origin: lib
+	@$(CARGO) recipe encode "$(RECIPE)" > target/recipe
+	@$(CARGO) origin target/recipe "$(NAME)"
+
 # The whole gate; its last line is 'N passed, M failed'.
 test: tools-there valgrind-there
 	@tools/test.sh
@@ -39,6 +46,7 @@ test: tools-there valgrind-there
 bench: lib
 	@$(CARGO) bench
 	@$(CARGO) bench_recipes
+	@$(CARGO) bench_origins
 
 # The static libraries, target/staticlib/lib*.a. Making one proves its crate once more, so it is done once.
 lib: $(ARCHIVES)
@@ -58,16 +66,17 @@ $(PROGRAM): $(SOURCES) | tools-there
 	@echo "proving the program and the 12 crates below it, once: about 4 minutes (make try needs seconds, and proves nothing)" >&2
 	@tools/progress.sh target/program.log $(RT) check bandrolt
 
-# The programs that the gate runs beside rt ci; each ends with 'N passed, M failed'.
-compare recipes: %: lib
+# The programs that the gate runs after rt ci; each ends with 'N passed, M failed'.
+compare recipes origins: %: lib
 	@$(CARGO) $@
 
 program: lib $(PROGRAM)
 	@$(CARGO) program $(PROGRAM)
 
-# Few recipes under valgrind: no call reads or writes what it was not lent, nor goes by a byte that nobody wrote.
-memory: lib valgrind-there
-	@CARGO_TARGET_X86_64_UNKNOWN_LINUX_GNU_RUNNER="valgrind --quiet --error-exitcode=9" $(CARGO) recipes few
+# Few recipes and walks under valgrind: no call reads or writes what it was not lent, nor goes by a byte that nobody wrote.
+memory: memory-recipes memory-origins
+memory-recipes memory-origins: memory-%: lib valgrind-there
+	@CARGO_TARGET_X86_64_UNKNOWN_LINUX_GNU_RUNNER="valgrind --quiet --error-exitcode=9" $(CARGO) $* few
 
 solver stack: %: $(BUILD)/%
 	@$(BUILD)/$@
@@ -76,6 +85,10 @@ $(BUILD)/%: harness/c/%.c harness/c/recipe.h include/bandrolt.h $(ARCHIVES)
 	@mkdir -p $(BUILD)
 	@gcc $(CC_FLAGS) $< $(ARCHIVES) -pthread -o $@
 
+# All that those programs need, made once, so that they can go side by side.
+ready: lib $(PROGRAM) $(BUILD)/solver $(BUILD)/stack
+	@cargo build $(HARNESS)
+
 tools-there:
 	@for tool in rt gcc cargo; do command -v $$tool > /dev/null || { echo "bandrolt needs $$tool, which is not on this machine's PATH"; exit 1; }; done
 	@mkdir -p target
@@ -83,4 +96,4 @@ tools-there:
 valgrind-there:
 	@command -v valgrind > /dev/null || { echo "bandrolt's memory test needs valgrind, which is not on this machine's PATH"; exit 1; }
 
-.PHONY: try run table test bench lib compare recipes program memory solver stack tools-there valgrind-there
+.PHONY: try run table origin test bench lib compare recipes origins program memory memory-recipes memory-origins solver stack ready tools-there valgrind-there
