@@ -1,5 +1,5 @@
 //! The comparison of walks back in one recipe: the programs answer the same, and from what the library answers
-//! one comes to the name again.
+//! one comes to the name again. And a walk in words, for people.
 
 use crate::bandrolt::{walk_back, Origin};
 use crate::other::recipe::slow::{self, Element};
@@ -7,7 +7,7 @@ use crate::other::recipe::walkers::Rules;
 use crate::other::recipe::{judge, Flat};
 use crate::other::rules::before_zero;
 use crate::other::{Refusal, FIELD};
-use crate::recipes::{decode, Field, Record, BLANK};
+use crate::recipes::{decode, text, Field, Record, BLANK};
 use std::collections::HashMap;
 
 /// A recipe that is read once, for any number of walks.
@@ -109,4 +109,26 @@ fn spells(parts: &[&[u8]], name: &[u8]) -> bool {
             (2..=run).any(|between| spells(others, &rest[between..]))
         }),
     }
+}
+
+/// The library's walk back from a name, in words: `submodel a at 51, species s at 165`, or `refused 18 at 0`.
+pub fn in_words(recipe: &[u8], name: &str) -> String {
+    // A name that is too long stays as it is.
+    let mut field = name.as_bytes().to_vec();
+    field.resize(field.len().max(FIELD), 0);
+    let origin = walk_back(recipe, &field);
+    if origin.number != 0 {
+        return format!("refused {} at {}", origin.number, origin.place);
+    }
+    let submodels = &origin.submodel[..origin.depth as usize];
+    let places = submodels.iter().chain([&origin.element]);
+    let way: Vec<String> = places.map(|&place| called(recipe, place)).collect();
+    way.join(", ")
+}
+
+/// What a recipe's text calls a record, and its place: the first two words of the line are its kind and its name.
+fn called(recipe: &[u8], place: u64) -> String {
+    let text = text::print(&recipe[place as usize..]);
+    let words: Vec<&str> = text.split_whitespace().take(2).collect();
+    format!("{} at {place}", words.join(" "))
 }

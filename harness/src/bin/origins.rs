@@ -12,7 +12,7 @@ use harness::recipes::generate::{case, deep};
 use harness::recipes::named::{edges, examples, to_try, Named};
 use harness::recipes::text;
 use harness::report::{are_often, asked, save, Asked, Tally};
-use harness::walks::Walks;
+use harness::walks::{in_words, Walks};
 use std::collections::BTreeMap;
 use std::ops::RangeInclusive;
 use std::process::ExitCode;
@@ -31,6 +31,18 @@ const NO_SURVIVOR: u64 = 18;
 const LEAST_OF_NO_SURVIVOR: usize = 20_000;
 const DEPTHS: RangeInclusive<u64> = 0..=4;
 const LEAST_OF_A_DEPTH: usize = 2_000;
+
+/// What docs/PICTURE.md says of names in its recipes.
+const PICTURED: [(&str, &str, &str); 4] = [
+    ("sample-r", "a__s", "submodel a at 51, species s at 165"),
+    ("sample-r", "c", "compartment c at 13"),
+    ("sample-r", "a__v", "refused 18 at 0"),
+    (
+        "two-levels",
+        "unit__vessel__biomass",
+        "submodel unit at 152, submodel vessel at 393, species biomass at 507",
+    ),
+];
 
 fn main() -> ExitCode {
     match asked("origins") {
@@ -65,6 +77,7 @@ fn check(seed: u64) -> ExitCode {
     let mut tally = Tally::default();
     let mut outcome = Outcome::new();
     check_named(&mut outcome, &mut tally);
+    check_pictured(&mut tally);
     for seed in [FIXED_SEED, seed] {
         check_random(seed, CASES_OF_A_SEED, &mut outcome, &mut tally);
     }
@@ -92,6 +105,16 @@ fn check_named(outcome: &mut Outcome, tally: &mut Tally) {
         let before = outcome.differing;
         outcome.add(&named.recipe, usize::MAX, &Random::new(FIXED_SEED));
         tally.add(&named.what, outcome.differing == before);
+    }
+}
+
+fn check_pictured(tally: &mut Tally) {
+    let examples = examples();
+    for (file, name, words) in PICTURED {
+        let is_wanted = |example: &&Named| example.what == format!("examples/{file}.recipe");
+        let example = examples.iter().find(is_wanted);
+        let holds = example.is_some_and(|example| in_words(&example.recipe, name) == words);
+        tally.add(&format!("{name} in {file}: {words}"), holds);
     }
 }
 
