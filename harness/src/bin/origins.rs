@@ -1,7 +1,8 @@
-//! Runs the programs that walk back beside each other, on 01's recipes, on generated and on enumerated ones: on the
-//! names of their elements, on damaged names and on those of other recipes.
+//! Runs the programs that walk back beside each other, on what is proved of the definitions, on 01's recipes, on
+//! generated and on enumerated ones: on the names of their elements, on damaged names and on those of other recipes.
 //! `origins [SEED]`, where the second random set follows from SEED or else from the clock; `origins few`, for valgrind.
 
+use harness::other::recipe::slow;
 use harness::other::recipe::walkers::{Rules, MUTANTS};
 use harness::other::rules::before_zero;
 use harness::other::FIELD;
@@ -10,6 +11,7 @@ use harness::recipes::enumerate::each_recipe;
 use harness::recipes::flat_names::{damaged, of_elements};
 use harness::recipes::generate::{case, deep};
 use harness::recipes::named::{edges, examples, to_try, Named};
+use harness::recipes::proved::{self, WalkSample};
 use harness::recipes::text;
 use harness::report::{are_often, asked, save, Asked, Tally};
 use harness::walks::{in_words, Walks};
@@ -76,6 +78,7 @@ fn check_few() -> ExitCode {
 fn check(seed: u64) -> ExitCode {
     let mut tally = Tally::default();
     let mut outcome = Outcome::new();
+    check_proved(&mut tally);
     check_named(&mut outcome, &mut tally);
     check_pictured(&mut tally);
     for seed in [FIXED_SEED, seed] {
@@ -94,6 +97,39 @@ fn check(seed: u64) -> ExitCode {
         tally.add(what, told_by.is_some());
     }
     tally.end()
+}
+
+/// The programs answer what is proved of the definitions.
+fn check_proved(tally: &mut Tally) {
+    let samples = proved::walks();
+    println!("{} walks proved of the definitions", samples.len());
+    for sample in &samples {
+        let (answer, complaint) = Walks::of(&sample.recipe).walk(&sample.name);
+        let agree = answer == sample.origin && complaint.is_none();
+        if !agree {
+            println!("{:?} is proved of {}", sample.origin, shown(&sample.name));
+            println!("{}", text::print(&sample.recipe));
+        }
+        tally.add("the programs answer as is proved of a walk", agree);
+    }
+    tally.add("there are walks that are proved", !samples.is_empty());
+    print_untold(&samples);
+}
+
+/// The mutants that the proved walks don't tell: a definition with one's error might be proved of them.
+fn print_untold(samples: &[WalkSample]) {
+    let agrees = |sample: &&WalkSample, rules: &Rules| {
+        rules.walk_back(&slow::elements(&sample.recipe), &sample.name) == sample.origin
+    };
+    // On which 02's own rules disagree, any would.
+    let samples = samples.iter().filter(|s| agrees(s, &Rules::default()));
+    let samples: Vec<&WalkSample> = samples.collect();
+    let is_told = |rules: &Rules| samples.iter().any(|sample| !agrees(sample, rules));
+    let not_told = MUTANTS
+        .iter()
+        .filter(|(_, bend)| !is_told(&Rules::bent(*bend)));
+    let not_told: Vec<&str> = not_told.map(|(what, _)| *what).collect();
+    println!("  mutants that are not told by these walks: {not_told:?}");
 }
 
 /// 01's recipes, with the names of all their elements.
@@ -162,6 +198,11 @@ fn check_counts(outcome: &Outcome, tally: &mut Tally) {
     tally.add("each depth is answered often enough", is_mixed);
 }
 
+/// A name as far as it can be read.
+fn shown(name: &[u8]) -> String {
+    String::from_utf8_lossy(before_zero(name)).into_owned()
+}
+
 impl Outcome {
     fn new() -> Self {
         Outcome {
@@ -193,8 +234,7 @@ impl Outcome {
         if let Some(complaint) = complaint {
             self.differing += 1;
             if self.differing == 1 {
-                let shown = String::from_utf8_lossy(before_zero(name));
-                println!("walk {}, of {shown}: {complaint}", self.walks);
+                println!("walk {}, of {}: {complaint}", self.walks, shown(name));
                 println!("{}", text::print(walks.recipe));
                 save(walks.recipe, "walked-recipe.hex");
                 save(name, "walked-name.hex");

@@ -1,14 +1,21 @@
-//! The recipes and tables that are proved of the definitions, read from the files that the prover reads.
+//! The recipes, tables and walks back that are proved of the definitions, read from the files that the prover reads.
 //! Of antt this evaluates definitions by one equation, over numbers, names in quotes, and lists.
 
-use crate::other::{Refusal, Verdict, FIELD, NAME};
+use crate::bandrolt::Origin;
+use crate::other::{Refusal, Route, Verdict, FIELD, NAME};
 use std::collections::HashMap;
 use std::iter::Peekable;
 use std::str::SplitWhitespace;
 use Value::*;
 
-const SAMPLES: &str = include_str!("../../../crates/samples/specs/Samples.antt");
-const PROOFS: &str = include_str!("../../../crates/samples/proofs/Starred.antt");
+const SAMPLES: &str = concat!(
+    include_str!("../../../crates/samples/specs/Samples.antt"),
+    include_str!("../../../crates/samples/specs/Walks.antt"),
+);
+const PROOFS: &str = concat!(
+    include_str!("../../../crates/samples/proofs/Starred.antt"),
+    include_str!("../../../crates/samples/proofs/Walks.antt"),
+);
 
 /// A recipe, the length of the output, the verdict, and the flat table.
 pub struct Sample {
@@ -24,13 +31,20 @@ pub struct TableSample {
     pub verdict: Verdict,
 }
 
+/// A recipe, a name, and what the walk back answers.
+pub struct WalkSample {
+    pub recipe: Vec<u8>,
+    pub name: Vec<u8>,
+    pub origin: Origin,
+}
+
 /// What is in the lists of which a proved statement says `every holdsOf`.
 pub fn recipes() -> Vec<Sample> {
     stated("holdsOf", |made, of| match (made, of) {
         ("refuses", [recipe, room, number, place]) => Sample {
             recipe: recipe.bytes(),
             room: room.number(),
-            verdict: refusal(number, place),
+            verdict: Err(refusal(number, place)),
             table: Vec::new(),
         },
         ("gives", [recipe, room, count, table]) => Sample {
@@ -48,7 +62,7 @@ pub fn tables() -> Vec<TableSample> {
     stated("tableHoldsOf", |made, of| match (made, of) {
         ("unclosed", [table, number, place]) => TableSample {
             table: table.bytes(),
-            verdict: refusal(number, place),
+            verdict: Err(refusal(number, place)),
         },
         ("closed", [table, count]) => TableSample {
             table: table.bytes(),
@@ -58,10 +72,30 @@ pub fn tables() -> Vec<TableSample> {
     })
 }
 
-fn refusal(number: &Value, place: &Value) -> Verdict {
+/// What is in the lists of which a proved statement says `every walkHoldsOf`.
+pub fn walks() -> Vec<WalkSample> {
+    stated("walkHoldsOf", |made, of| match (made, of) {
+        ("walked", [recipe, name, submodels, element]) => WalkSample {
+            recipe: recipe.bytes(),
+            name: name.bytes(),
+            origin: Origin::from(Ok(Route {
+                submodels: submodels.numbers(),
+                element: element.number(),
+            })),
+        },
+        ("unwalked", [recipe, name, number, place]) => WalkSample {
+            recipe: recipe.bytes(),
+            name: name.bytes(),
+            origin: Origin::from(Err(refusal(number, place))),
+        },
+        _ => panic!("{made} makes no walk's sample"),
+    })
+}
+
+fn refusal(number: &Value, place: &Value) -> Refusal {
     let number = number.number() as u64;
     let place = place.number();
-    Err(Refusal { number, place })
+    Refusal { number, place }
 }
 
 /// The samples of which a proved statement says that every one passes a test.
@@ -108,9 +142,13 @@ impl Value {
         }
     }
 
+    fn numbers(&self) -> Vec<usize> {
+        self.clone().list().iter().map(Value::number).collect()
+    }
+
     fn bytes(&self) -> Vec<u8> {
-        let byte = |value: Value| u8::try_from(value.number()).expect("a byte");
-        self.clone().list().into_iter().map(byte).collect()
+        let byte = |number| u8::try_from(number).expect("a byte");
+        self.numbers().into_iter().map(byte).collect()
     }
 
     fn of_bytes(bytes: &[u8]) -> Self {
@@ -131,7 +169,9 @@ fn primitive(name: &str, of: &[Value]) -> Option<Value> {
             list.resize(list.len().max(*width), Number(0));
             List(list)
         }
-        ("refuses" | "gives" | "unclosed" | "closed", _) => Made(name.into(), of.to_vec()),
+        ("refuses" | "gives" | "unclosed" | "closed" | "walked" | "unwalked", _) => {
+            Made(name.into(), of.to_vec())
+        }
         _ => return None,
     })
 }
