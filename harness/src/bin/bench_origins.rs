@@ -1,7 +1,7 @@
 //! Times the library's walk back beside the other program's, and beside the library's flattening of the same recipe.
 //! It prints microseconds for one walk and judges nothing.
 
-use harness::bandrolt::{flatten, walk_back, Origin};
+use harness::bandrolt::{flatten, walk_back};
 use harness::other::{recipe, FIELD, RECORD};
 use harness::recipes::sized::{long_names, one_definition, plant, tree};
 use harness::recipes::text::parse;
@@ -10,7 +10,8 @@ use harness::timing::times;
 
 const ROOM: usize = MAX_RECORDS * RECORD;
 
-type WalkBack = fn(&[u8], &[u8]) -> Origin;
+/// What is timed on a recipe; the number that it answers comes back.
+type Program<'a> = Box<dyn FnMut(&[u8]) -> u64 + 'a>;
 
 fn main() {
     println!(
@@ -39,16 +40,14 @@ fn print_rows(what: &str, recipe: &str) {
 }
 
 fn print_row(what: &str, recipe: &[u8], name: &[u8], number: u64) {
-    let walkers: [WalkBack; 2] = [walk_back, recipe::walk_back];
-    let [ours, other] = walkers.map(|walk_back| walk_back(recipe, name));
+    let ours = walk_back(recipe, name);
+    let other = recipe::walk_back(recipe, name);
     assert_eq!(ours, other, "the programs answer the same");
     assert_eq!(ours.number, number, "{what}");
     let mut table = vec![0; ROOM];
-    let [ours, other] =
-        walkers.map(|walk_back| move |recipe: &[u8]| walk_back(recipe, name).number);
-    let mut programs: [Box<dyn FnMut(&[u8]) -> u64>; 3] = [
-        Box::new(ours),
-        Box::new(other),
+    let mut programs: [Program; 3] = [
+        Box::new(|recipe| walk_back(recipe, name).number),
+        Box::new(|recipe| recipe::walk_back(recipe, name).number),
         Box::new(|recipe| flatten(recipe, &mut table).number),
     ];
     let [ours, other, flattening] = times(&mut programs, &[recipe.to_vec()]);

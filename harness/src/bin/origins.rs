@@ -55,7 +55,9 @@ fn main() -> ExitCode {
 }
 
 /// What the walks have shown.
+#[derive(Default)]
 struct Outcome {
+    recipes: usize,
     walks: usize,
     /// Walks on which the programs differ, or which the library answers badly.
     differing: usize,
@@ -155,7 +157,7 @@ fn check_pictured(tally: &mut Tally) {
 }
 
 fn check_random(seed: u64, cases: u64, outcome: &mut Outcome, tally: &mut Tally) {
-    let what = format!("{cases} random recipes of seed {seed}");
+    let what = format!("random recipes of seed {seed}");
     check_set(&what, outcome, tally, |outcome| {
         for number in 0..cases {
             let random = Random::of_case(seed, number);
@@ -171,12 +173,13 @@ fn check_random(seed: u64, cases: u64, outcome: &mut Outcome, tally: &mut Tally)
 /// The programs agree on a set of recipes.
 fn check_set(what: &str, outcome: &mut Outcome, tally: &mut Tally, add: impl FnOnce(&mut Outcome)) {
     let start = Instant::now();
-    let (walks, differing) = (outcome.walks, outcome.differing);
+    let before = (outcome.recipes, outcome.walks, outcome.differing);
     add(outcome);
-    let walks = outcome.walks - walks;
+    let recipes = outcome.recipes - before.0;
+    let walks = outcome.walks - before.1;
     let seconds = start.elapsed().as_secs_f64();
-    println!("{what}, {walks} walks, {seconds:.1} s");
-    tally.add("the programs agree on them", outcome.differing == differing);
+    println!("{recipes} {what}, {walks} walks, {seconds:.1} s");
+    tally.add("the programs agree on them", outcome.differing == before.2);
 }
 
 fn check_counts(outcome: &Outcome, tally: &mut Tally) {
@@ -206,12 +209,9 @@ fn shown(name: &[u8]) -> String {
 impl Outcome {
     fn new() -> Self {
         Outcome {
-            walks: 0,
-            differing: 0,
-            numbers: BTreeMap::new(),
-            depths: BTreeMap::new(),
             told_by: vec![None; MUTANTS.len()],
             foreign: vec![0; FIELD],
+            ..Outcome::default()
         }
     }
 
@@ -227,6 +227,7 @@ impl Outcome {
         for name in &names {
             self.walk(&walks, name);
         }
+        self.recipes += 1;
     }
 
     fn walk(&mut self, walks: &Walks, name: &[u8]) {
