@@ -55,10 +55,10 @@ $(ARCHIVES): target/staticlib/lib%.a: target/below
 	@echo "proving $* once more, for the library: half a minute" >&2
 	@$(RT) staticlib $* > target/lib-$*.log 2>&1 || { cat target/lib-$*.log; exit 1; }
 
-# All crates below the composer, side by side; rt staticlib would prove them one by one.
+# All that the libraries stand on, side by side; rt staticlib would prove it crate by crate.
 target/below: $(SOURCES) | tools-there
-	@echo "proving the crates below the composer, once: about 4 minutes" >&2
-	@tools/progress.sh target/below.log $(RT) check compose flat_names
+	@echo "proving the crates that the libraries stand on, once: about 4 minutes" >&2
+	@tools/progress.sh target/below.log $(RT) check composer
 	@touch $@
 
 # The printing program.
