@@ -16,7 +16,6 @@ use Rattle.tree.specs.Tree.{Node, node, treeElements}
 use Rattle.names.proofs.Stores.{sets-append}
 use Rattle.marks.proofs.Elements.{elements-few}
 use Rattle.marks.specs.Marks.{isGone, survivors}
-use Rattle.composer.specs.Flat.{flat, flatRecord}
 use Rattle.composer.specs.Writing.{FatesRequires, elementAt}
 use Rattle.composer.proofs.ByNumber.{element-in, element-number}
 

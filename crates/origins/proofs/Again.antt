@@ -29,13 +29,13 @@ module _ (recipe before after : List ℕ) (a : Answer) (answers : a ≡ verdict 
     unfolding recipeOf nameWidth
     own-path = own (recipeOf recipe) twelve before after a answers leaves accepts
 
-    -- the names that are walkedTo back are those of the table,
+    -- the names that are walked back are those of the table,
     pub walked-names : (name : List ℕ) (o : Origin) → o ≡ walkBack (recipeOf recipe) name → o .number ≡ 0
         → (p : ℕ) × In p (placesOf nameWidth (take (a .bytes) after)) × (nameIn nameWidth (take (a .bytes) after) p ≡ name)
     unfolding recipeOf nameWidth
     walked-names = listed (recipeOf recipe) twelve before after a answers leaves accepts
 
-    -- and these are all walkedTo back
+    -- and these are all walked back
     pub table-names : (p : ℕ) → In p (placesOf nameWidth (take (a .bytes) after))
         → (o : Origin) → o ≡ walkBack (recipeOf recipe) (nameIn nameWidth (take (a .bytes) after) p) → o .number ≡ 0
     unfolding recipeOf nameWidth

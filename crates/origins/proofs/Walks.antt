@@ -16,7 +16,6 @@ use Rattle.recipe.specs.Records.{Recipe}
 use Rattle.recipe.specs.Reading.{fault₃, fault₄, fault₅}
 use Rattle.tree.specs.Faults.{fault₇}
 use Rattle.tree.specs.Tree.{Node, instances, mostDepth}
-use Rattle.tree.proofs.Instances.{depth}
 use Rattle.tree.proofs.Nodes.{in-tree}
 use Rattle.marks.specs.Marks.{survivors}
 use Rattle.marks.proofs.Survivors.{survivor}
@@ -33,7 +32,7 @@ module _ (s : Recipe) (f : List ℕ) (o : Origin) (walks : o ≡ walkBack s f) (
   number-is : walkBack s f .number ≡ 0
   number-is = ap (λ (x : Origin). x .number) (sym walks) ∙ found
 
-  -- a name is walkedTo back only in a recipe that no row refuses,
+  -- a name is walked back only in a recipe that no row refuses,
   pub walked-unrefused : Unrefused s
   unfolding refusalOf areRefusals walkBack walkRefused
   walked-unrefused =
@@ -86,7 +85,7 @@ module _ (s : Recipe) (two : 2 ≤ s .width) (h : Unrefused s) where
       let i = origin-is s f x e in
       names-one s two r₃ r₅ r₇ r₄ x (i .0) f (sym (same-true (flatField s (some x)) f (i .1)))
 
-  -- a survivor is walkedTo back from its own name
+  -- a survivor is walked back from its own name
   pub own-origin : (x : Node) → In x (survivors s) → walkBack s (flatField s (some x)) ≡ walkedTo x
   unfolding originOf isNamed walkAnswer
   own-origin x i =
