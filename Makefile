@@ -63,7 +63,7 @@ target/below: $(SOURCES) | tools-there
 
 # The printing program.
 $(PROGRAM): $(SOURCES) | tools-there
-	@echo "proving the program and the 12 crates below it, once: about 4 minutes (make try needs seconds, and proves nothing)" >&2
+	@echo "proving the program and all crates below it, once: about 4 minutes (make try needs seconds, and proves nothing)" >&2
 	@tools/progress.sh target/program.log $(RT) check bandrolt
 
 # The programs that the gate runs after rt ci; each ends with 'N passed, M failed'.

@@ -1,3 +1,4 @@
 -- What composing promises: the order of judging, and the rooms that it fills.
 pub mod Rows
 pub mod Rooms
+pub mod Composed

@@ -2,15 +2,17 @@
 // For the floors above: compose, and the sizes of its rooms. There is no public call.
 ghost use mathlib.Core.Path.{_≡_};
 ghost use mathlib.Core.List.{_++_};
-ghost use Prim.Native.Nat.{_<_, _≤_};
+ghost use Prim.Native.Nat.{_*_, _<_, _≤_};
 ghost use lib.ListN.{length};
 ghost use Rattle.names.specs.Judging.{refusalAt, judged, handed};
 ghost use Rattle.recipe.specs.Records.{recipeAt};
 ghost use Rattle.recipe.specs.Reading.{formRows, namingRows};
 ghost use Rattle.shadow.specs.Columns.{Measured};
 ghost use Rattle.tree.specs.Faults.{treeRows, targetRows};
-ghost use Rattle.marks.specs.Composed.{Composed};
+ghost use Rattle.tree.specs.Tree.{treeElements};
+ghost use Rattle.targets.specs.Targeted.{Targeted};
 ghost use Rattle.marks.specs.Faults.{markRows, referenceRows};
+ghost use Rattle.compose.specs.Composed.{Composed};
 ghost use Rattle.compose.specs.Rooms.{Width, Rooms, NamesRequires};
 ghost use Rattle.compose.specs.Rows.{refusalRows};
 use names::Found;
@@ -90,6 +92,38 @@ fn answer(a: Refusal, insts: usize, elems: usize) -> Composition
     }
 }
 
+// Rows 9 to 12 in order; where none applies, the elements of the tree as rows, all columns filled.
+fn judge_marks(
+    s: &[u8],
+    w: usize,
+    t: &[u16],
+    inst: &[u16],
+    el: &mut [u16],
+    n: usize,
+    elems: usize,
+) -> Refusal
+    requires { ⌜ Targeted (recipeAt w (now s)) (now t) (now inst) n × ((elems ≡ length (treeElements (recipeAt w (now s)))) × (5 * 1024 ≤ length (now el))) ⌝ }
+    ensures { λ r. ⌜ (r ≡ handed (judged (markRows (recipeAt w (now (s .entry))) ++ referenceRows (recipeAt w (now (s .entry)))))) × (r .number ≡ 0 → Composed (recipeAt w (now (s .entry))) (now (t .entry)) (now (inst .entry)) (now (el .exit)) n elems) ⌝ }
+{
+    let mut cells = [0u8; marks::CELLS];
+    if let Found::At(p) = marks::first_conflict(s, w, t, inst, &mut cells) {
+        return names::refuse(9, p);
+    }
+    if let Found::At(p) = targets::first_misclassed(s, w, t) {
+        return names::refuse(10, p);
+    }
+    elements::list_elements(s, w, t, inst, el);
+    elements::mark_gone(s, w, t, &cells, el, elems);
+    if let Found::At(p) = elements::first_lost(s, w, t, inst, el) {
+        return names::refuse(11, p);
+    }
+    elements::fill_steps(s, w, t, inst, el);
+    if let Found::At(p) = references::first_misreferred(s, w, t, el, elems) {
+        return names::refuse(12, p);
+    }
+    names::refuse(0, 0)
+}
+
 // Rows 7 to 12 of a recipe that rows 1 to 6 let pass.
 fn judge_tree(s: &[u8], w: usize, t: &mut [u16], inst: &mut [u16], el: &mut [u16]) -> Composition
     requires { ⌜ Measured (recipeAt w (now s)) (now t) × ((0 < length (now s)) × Rooms (now t) (now inst) (now el)) ⌝ }
@@ -102,10 +136,10 @@ fn judge_tree(s: &[u8], w: usize, t: &mut [u16], inst: &mut [u16], el: &mut [u16
     if large {
         return answer(names::refuse(7, 0), 0, 0);
     }
-    if let Found::At(p) = tree::first_untargeted(s, w, t) {
+    if let Found::At(p) = targets::first_untargeted(s, w, t) {
         return answer(names::refuse(8, p), 0, 0);
     }
-    let a = marks::judge_marks(s, w, t, inst, el, insts, elems);
+    let a = judge_marks(s, w, t, inst, el, insts, elems);
     answer(a, insts, elems)
 }
 

@@ -13,9 +13,9 @@ use Rattle.tree.specs.Faults.{fault₇}
 use Rattle.tree.specs.Numbers.{number}
 use Rattle.tree.specs.Tree.{Node, instances, node, treeElements}
 use Rattle.tree.proofs.Nodes.{node-eq}
-use Rattle.marks.specs.Composed.{ElementRows}
+use Rattle.elements.specs.Columns.{ElementRows}
 use Rattle.tree.proofs.Numbering.{number-inj}
-use Rattle.marks.proofs.Elements.{element-number as number-at, number-low}
+use Rattle.elements.proofs.Elements.{element-number as number-at, number-low}
 use Rattle.composer.specs.Writing.{elementAt}
 
 module _ (s : Recipe) (h₇ : fault₇ s ≡ none) where

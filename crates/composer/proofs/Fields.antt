@@ -24,11 +24,11 @@ use Rattle.tree.specs.Faults.{fault₇}
 use Rattle.tree.specs.Numbers.{number}
 use Rattle.tree.specs.Tree.{Node, instances, node, parentOf, referenceOf, treeElements}
 use Rattle.tree.proofs.Nodes.{parent-in, reference-in}
-use Rattle.tree.proofs.Resolving.{not-zero}
-use Rattle.marks.specs.Composed.{endOf}
+use Rattle.targets.proofs.Resolving.{not-zero}
+use Rattle.references.specs.Ends.{endOf}
 use Rattle.marks.specs.Marks.{chainEnd, isGone, survivors}
 use Rattle.marks.proofs.Chain.{chain-in}
-use Rattle.marks.proofs.Elements.{element-held}
+use Rattle.elements.proofs.Elements.{element-held}
 use Rattle.flat_names.specs.Prefixes.{flatName}
 use Rattle.composer.specs.Flat.{flatField, flatRecord, flatReference}
 use Rattle.composer.specs.Writing.{SiteAt, SiteInTree, WriterRequires, elementAt, siteOf}

@@ -11,12 +11,12 @@ use Rattle.names.proofs.Lists.{keep-length}
 use Rattle.flat_table.specs.Table.{flatLength, flatWidth}
 use Rattle.recipe.specs.Records.{Recipe}
 use Rattle.tree.specs.Tree.{treeElements}
-use Rattle.marks.specs.Composed.{Composed}
+use Rattle.compose.specs.Composed.{Composed}
 use Rattle.marks.specs.Marks.{isGone, survivors}
 use Rattle.flat_names.specs.Rows.{Prefixed, rowWidth}
 use Rattle.flat_names.proofs.Puts.{rows-room}
 use Rattle.composer.specs.Writing.{FatesRequires, WriterRequires}
-use Rattle.marks.proofs.Elements.{elements-few}
+use Rattle.elements.proofs.Elements.{elements-few}
 
 module _ {s : Recipe} {t inst el : List ℕ} {insts elems : ℕ} (C : Composed s t inst el insts elems) where
   pub fates : FatesRequires s el elems

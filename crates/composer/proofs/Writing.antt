@@ -14,7 +14,7 @@ use Rattle.names.proofs.Tests.{by-cases}
 use Rattle.recipe.specs.Records.{Recipe}
 use Rattle.tree.specs.Tree.{Node, node, treeElements}
 use Rattle.names.proofs.Stores.{sets-append}
-use Rattle.marks.proofs.Elements.{elements-few}
+use Rattle.elements.proofs.Elements.{elements-few}
 use Rattle.marks.specs.Marks.{isGone, survivors}
 use Rattle.composer.specs.Writing.{FatesRequires, elementAt}
 use Rattle.composer.proofs.ByNumber.{element-in, element-number}

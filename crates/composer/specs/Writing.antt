@@ -14,7 +14,8 @@ use Rattle.recipe.specs.Records.{Recipe, isElement, parentField, places}
 use Rattle.shadow.specs.Shadow.{Shadowed}
 use Rattle.tree.specs.Faults.{fault₇}
 use Rattle.tree.specs.Tree.{Node, instances, node, treeElements}
-use Rattle.marks.specs.Composed.{ElementRows, Ends, Gones}
+use Rattle.elements.specs.Columns.{ElementRows, Gones}
+use Rattle.references.specs.Ends.{Ends}
 use Rattle.flat_names.specs.Rows.{Naming, Prefixed}
 
 -- "in tree order": the element of number e

@@ -7,16 +7,16 @@ ghost use lib.ListN.{length, getD, drop};
 ghost use lib.Seq.{sets};
 ghost use Rattle.flat_table.specs.Table.{flatWidth, flatLength};
 ghost use Rattle.recipe.specs.Records.{recipeAt};
-ghost use Rattle.marks.specs.Composed.{Composed};
+ghost use Rattle.compose.specs.Composed.{Composed};
 ghost use Rattle.marks.specs.Marks.{survivors};
 ghost use Rattle.flat_names.specs.Rows.{Naming, Prefixed};
 ghost use Rattle.composer.specs.Flat.{flatField, flat};
 ghost use Rattle.composer.specs.Verdicts.{recipeOf, refused, verdict, written};
 ghost use Rattle.compose.specs.Rows.{Unrefused};
 ghost use Rattle.composer.specs.Writing.{siteOf, SiteInTree, SiteAt, FatesRequires, WriterRequires};
-use marks::GONE;
-use marks::INSTANCE;
-use marks::RECORD;
+use elements::GONE;
+use elements::INSTANCE;
+use elements::RECORD;
 use shadow::cell;
 
 // 01's name width.
@@ -76,7 +76,7 @@ fn reference_site(el: &[u16], e: usize) -> Site
     requires { ⌜ (e < 1024) × ((5 * e + 4 < length (now el)) × (5 * getD (now el) (5 * e + 4) 0 ≤ length (now el))) ⌝ }
     ensures { λ r. ⌜ SiteAt (now (el .entry)) (getD (now (el .entry)) (5 * e + 4) 0) (r .inst) (r .record) ⌝ }
 {
-    let z = cell(el, 5 * e, marks::REFERENCE_END);
+    let z = cell(el, 5 * e, references::REFERENCE_END);
     if z == 0 {
         return Site { inst: 0, record: 0 };
     }

@@ -1,4 +1,4 @@
--- The laws of marks: targets in the tree, the chain's five steps, what survives, and what rows 9 to 12 say where they do not apply.
+-- The laws of marks: targets in the tree, the chain's five steps, what survives, and what row 9 says where it does not apply.
 pub mod Marks
 pub mod Chain
 pub mod Conflicts
@@ -11,12 +11,3 @@ pub mod Records
 pub mod Threads
 pub mod Pass
 pub mod Turn
-pub mod Elements
-pub mod Gone
-pub mod Listing
-pub mod Steps
-pub mod StepTable
-pub mod Lost
-pub mod Ends
-pub mod References
-pub mod Judged

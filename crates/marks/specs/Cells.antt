@@ -11,7 +11,7 @@ use Rattle.names.specs.Lists.{In, among}
 use Rattle.recipe.specs.Records.{Recipe, isPort, isReplacedBy, portKind, replacedByKind, markKind}
 use Rattle.tree.specs.Numbers.{number}
 use Rattle.tree.specs.Faults.{fault₇}
-use Rattle.tree.specs.Planted.{Aimed, Targeted}
+use Rattle.targets.specs.Targeted.{Aimed, Targeted}
 use Rattle.tree.specs.Tree.{Node, instances}
 use Rattle.marks.specs.Marks.{aim, owner, treePointers}
 

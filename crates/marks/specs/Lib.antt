@@ -1,9 +1,4 @@
--- Marks in the tree: targets, conflicts, what is gone, the chain, and rows 9, 11 and 12 of 01's "Verdicts".
+-- Marks in the tree: targets, conflicts, what is gone, the chain, rows 9, 11 and 12 of 01's "Verdicts"; and the cells by which conflicts are seen.
 pub mod Marks
 pub mod Faults
 pub mod Cells
-pub mod Steps
-pub mod Gone
-pub mod Listing
-pub mod Composed
-pub mod References

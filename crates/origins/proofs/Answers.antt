@@ -19,7 +19,7 @@ use Rattle.flat_table.specs.Table.{flatWidth}
 use Rattle.recipe.specs.Records.{Recipe}
 use Rattle.tree.specs.Numbers.{number}
 use Rattle.tree.specs.Tree.{Node, treeElements}
-use Rattle.marks.specs.Composed.{Composed}
+use Rattle.compose.specs.Composed.{Composed}
 use Rattle.marks.specs.Marks.{survivors}
 use Rattle.marks.proofs.Survivors.{survivor}
 use Rattle.compose.specs.Rows.{Unrefused, refusalOf, refusalRows}

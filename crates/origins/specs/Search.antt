@@ -14,7 +14,7 @@ use Rattle.shadow.specs.Columns.{Linked}
 use Rattle.tree.specs.Faults.{fault₇}
 use Rattle.tree.specs.Planted.{InstanceRows, Planted}
 use Rattle.tree.specs.Tree.{Node, instances, treeElements}
-use Rattle.marks.specs.Composed.{ElementRows, Gones}
+use Rattle.elements.specs.Columns.{ElementRows, Gones}
 use Rattle.marks.specs.Marks.{isGone}
 use Rattle.flat_names.specs.Prefixes.{prefix}
 use Rattle.flat_names.specs.Rows.{Naming, prefixesOf, rowWidth}

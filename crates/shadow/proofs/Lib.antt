@@ -3,3 +3,4 @@ pub mod Cells
 pub mod Columns
 pub mod Counting
 pub mod Numbering
+pub mod Clearing

@@ -1,10 +1,11 @@
 // The shadow of a recipe: one lent table for all that is known of its records. Cell k of the record at p is t[p + k]; `specs/Columns.antt` has what each cell means.
-// For the floors above: the cells' numbers, cell and set_cell; number_records, which fills the cells 0 to 2.
+// For the floors above: the cells' numbers, cell and set_cell; clear_cells; number_records, which fills the cells 0 to 2.
 ghost use mathlib.Core.Path.{_≡_};
+ghost use mathlib.Core.List.{[], _∷_};
 ghost use Prim.Native.Nat.{_+_, _<_};
 ghost use lib.ListN.{length, getD, set};
-ghost use Rattle.recipe.specs.Records.{recipeAt};
-ghost use Rattle.shadow.specs.Shadow.{Shadowed};
+ghost use Rattle.recipe.specs.Records.{places, recipeAt};
+ghost use Rattle.shadow.specs.Shadow.{Cell, Kept, Shadowed};
 ghost use Rattle.shadow.specs.Columns.{Numbered};
 
 pub const DEFINITION_OF: usize = 0;
@@ -49,6 +50,18 @@ pub fn set_cell(t: &mut [u16], p: usize, k: usize, x: usize)
     ensures { λ _. ⌜ now (t .exit) ≡ set (now (t .entry)) (p + k) x ⌝ }
 {
     t[p + k] = x as u16;
+}
+
+// Clears cell k of each record.
+pub fn clear_cells(s: &[u8], w: usize, t: &mut [u16], k: usize)
+    requires { ⌜ Shadowed (recipeAt w (now s)) (now t) × (k < 13) ⌝ }
+    ensures { λ _. ⌜ Cell (places (recipeAt w (now (s .entry)))) k (λ p. 0) (now (t .exit)) × Kept (recipeAt w (now (s .entry))) (k ∷ []) (now (t .entry)) (now (t .exit)) ⌝ }
+{
+    let mut p = 0;
+    while p < s.len() {
+        set_cell(t, p, k, 0);
+        p += recipe::record_length(s[p], w);
+    }
 }
 
 // Fills each record's definition, each element's number in its definition, and how many elements each definition has.

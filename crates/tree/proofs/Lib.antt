@@ -8,12 +8,6 @@ pub mod Numbering
 pub mod Submodels
 pub mod Walks
 pub mod Trees
-pub mod Clearing
 pub mod Threads
 pub mod FromMain
 pub mod ByRecord
-pub mod ByHeight
-pub mod Resolving
-pub mod Remembering
-pub mod Targeting
-pub mod Misclassed

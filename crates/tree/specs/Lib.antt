@@ -3,5 +3,4 @@ pub mod Tree
 pub mod Faults
 pub mod Numbers
 pub mod Walk
-pub mod Resolve
 pub mod Planted

@@ -7,18 +7,18 @@
 use Prim.Native.Nat.{_*_, _+_, _<_, _≤_, suc, ℕ}
 use lib.Dec.{eqb}
 use lib.ListN.{drop, getD, length}
-use mathlib.Core.Bool.{cond, true}
+use mathlib.Core.Bool.{cond}
 use mathlib.Core.List.{List, [], _++_, _∷_}
 use mathlib.Core.Option.{none, some}
 use mathlib.Core.Path.{_≡_}
 use Rattle.names.specs.Lists.{In}
 use Rattle.recipe.specs.Definitions.{definitions, holder, main, submodels}
-use Rattle.recipe.specs.Records.{Recipe, isPointer, places}
+use Rattle.recipe.specs.Records.{Recipe, places}
 use Rattle.shadow.specs.Shadow.{Cell, Kept, Shadowed}
 use Rattle.shadow.specs.Columns.{Measured}
-use Rattle.tree.specs.Faults.{fault₇, fault₈}
-use Rattle.tree.specs.Numbers.{ahead, firstAt, reach}
-use Rattle.tree.specs.Tree.{Node, definitionAt, instances, nodes, target}
+use Rattle.tree.specs.Faults.{fault₇}
+use Rattle.tree.specs.Numbers.{ahead, firstAt}
+use Rattle.tree.specs.Tree.{definitionAt, instances}
 
 -- one more than the number of the first instance of definition d among those at the paths, the first of which has the number i; or 0
 abbrev pub instanceFrom : Recipe → ℕ → ℕ → List (List ℕ) → ℕ
@@ -64,15 +64,3 @@ pub record Planted (s : Recipe) (t inst : List ℕ) (n : ℕ) : Type 0 where
   pub rows : InstanceRows s inst n
   pub offsets : (path : List ℕ) → In path (instances s) → (m : ℕ) → In m (submodels s (definitionAt s path)) → getD t (m + 7) 0 ≡ ahead s (holder s m) m
   pub firsts : Cell (definitions s) 8 (λ d. instanceFrom s d 0 (instances s)) t
-
--- rows 1 to 6 and 8 do not apply: the place of each port's and mark's target
-pub record Aimed (s : Recipe) (t : List ℕ) : Type 0 where
-  pub measured : Measured s t
-  pub row₈ : fault₈ s ≡ none
-  pub targets : (r : ℕ) → In r (places s) → isPointer s r ≡ true → (x : Node) → target s r ≡ some x → getD t (r + 10) 0 ≡ x .place
-
--- rows 1 to 8 do not apply: and in the tree its number, counted from the first element of its instance
-pub record Targeted (s : Recipe) (t inst : List ℕ) (n : ℕ) : Type 0 where
-  pub planted : Planted s t inst n
-  pub aimed : Aimed s t
-  pub numbers : (x : Node) → In x (nodes s (isPointer s)) → getD t (x .place + 9) 0 ≡ reach s (x .place)

@@ -3,7 +3,7 @@
 use mathlib.Core.Path.{_∙_, sym}
 use native.Mathlib.Omega.{arith}
 use Rattle.names.proofs.Judging.{row-hit, row-miss}
-use Rattle.tree.proofs.Targeting.{targeted}
+use Rattle.targets.proofs.Targeting.{targeted}
 use Rattle.compose.proofs.Judging.{large, small}
 use borrow.Author.Needs.{needs}
 use Rattle.compose.proofs.judge_tree.Statement.{statement}
