@@ -3,8 +3,7 @@
 // and reference_allowed, for the floors above.
 ghost use mathlib.Core.Path.{_≡_};
 ghost use mathlib.Core.Option.{none, some};
-ghost use Prim.Native.Nat.{_+_, _*_, _≤_, _<_};
-ghost use lib.ListN.{length};
+ghost use Prim.Native.Nat.{_*_};
 ghost use Rattle.names.specs.Lists.{same};
 ghost use Rattle.names.specs.Scans.{scan, foundOf};
 ghost use Rattle.name_index.specs.Index.{nameOf};

@@ -2,7 +2,7 @@
 // takes n log n comparisons on all input. For the floors above: hash, hash_names, build, find, first_repeat.
 ghost use mathlib.Core.Path.{_≡_};
 ghost use mathlib.Core.List.{_∷_, _++_};
-ghost use Prim.Native.Nat.{_+_, _-_, _*_, _/_, _≤_, _<_};
+ghost use Prim.Native.Nat.{_+_, _-_, _/_, _≤_, _<_};
 ghost use lib.ListN.{length, take, drop, getD};
 ghost use Rattle.names.specs.Lists.{same};
 ghost use Rattle.names.specs.Order.{before};
