@@ -20,8 +20,8 @@ use Rattle.recipe.proofs.Reaching.{plain-reaches, reaches-plain, reach-in, reac
 use Rattle.recipe.proofs.Spans.{definition-place}
 use Rattle.shadow.specs.Columns.{Linked}
 use Rattle.shadow.proofs.Cells.{apart}
-use Rattle.heights.specs.Search.{NextSubmodel, sum, IsMarked, Marks, Marked, ModelBelow}
-use Rattle.heights.proofs.Along.{Through, through-start, through-on, through-end, through-model}
+use Rattle.heights.specs.Search.{sum, IsMarked, Marks, Marked, ModelBelow}
+use Rattle.heights.proofs.Along.{NextSubmodel, Through, through-start, through-on, through-end, through-model}
 
 -- ---- sums
 sum-set : (xs : List ℕ) (i v : ℕ) → i < length xs → sum (set xs i v) + getD xs i 0 ≡ sum xs + v

@@ -25,9 +25,8 @@ use Rattle.shadow.specs.Shadow.{Shadowed, Cell, Kept}
 use Rattle.shadow.specs.Columns.{Linked, Heights}
 use Rattle.shadow.proofs.Cells.{cell-set, cell-kept, kept-all, kept-set, kept-then, Walking, walk-start, walk-place, walk-one, before-next}
 use Rattle.shadow.proofs.Columns.{linked-over}
-use Rattle.heights.specs.Search.{NextSubmodel}
 use Rattle.heights.specs.Heights.{heightOf, isUnseen, isSettled, higherOf, countOf, Partly, HeightsAdded, SettleFromRequires, Grows, Decides}
-use Rattle.heights.proofs.Along.{linked-room, definition-low, submodel-after, Through, through-start, through-on, through-end, through-model, through-in}
+use Rattle.heights.proofs.Along.{NextSubmodel, linked-room, definition-low, submodel-after, Through, through-start, through-on, through-end, through-model, through-in}
 
 -- ---- members that pass a test
 module _ (f g : ℕ → Bool) where

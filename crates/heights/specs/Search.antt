@@ -1,4 +1,4 @@
--- What the search for a definition that reaches itself keeps: a loop over a definition's submodels, marks by definition, a queue of what is marked.
+-- What the search for a definition that reaches itself keeps: marks by definition, a queue of what is marked.
 -- Assumes nothing.
 use mathlib.Core.Path.{_≡_}
 use mathlib.Core.List.{List, [], _∷_}
@@ -7,13 +7,6 @@ use lib.ListN.{length, getD}
 use Rattle.names.specs.Lists.{In}
 use Rattle.recipe.specs.Records.{Recipe}
 use Rattle.recipe.specs.Definitions.{submodels, modelOf}
-
--- r is the first submodel of d behind the record at q, or the recipe's end
-pub record NextSubmodel (s : Recipe) (d q r : ℕ) : Type 0 where
-  pub after : q < r
-  pub within : r ≤ length (s .bytes)
-  pub one : r < length (s .bytes) → In r (submodels s d)
-  pub first : (m : ℕ) → In m (submodels s d) → q < m → m < r → ⊥
 
 -- the sum of a list
 abbrev pub sum : List ℕ → ℕ

@@ -2,18 +2,18 @@
 // For the floors above: find_heights. It reads the links in the shadow, and fills the cell HEIGHT of each model.
 ghost use mathlib.Core.Path.{_≡_};
 ghost use mathlib.Core.List.{[], _∷_};
-ghost use Prim.Native.Nat.{ℕ, _≤_, _<_};
+ghost use Prim.Native.Nat.{ℕ, _<_};
 ghost use lib.ListN.{length};
 ghost use Rattle.names.specs.Lists.{In};
 ghost use Rattle.names.specs.Scans.{foundOf};
 ghost use Rattle.names.specs.declared.Found.{Found};
-ghost use Rattle.recipe.specs.Records.{recipeAt, places};
+ghost use Rattle.recipe.specs.Records.{recipeAt};
 ghost use Rattle.recipe.specs.Definitions.{definitions};
 ghost use Rattle.recipe.specs.Reaching.{reaches};
 ghost use Rattle.recipe.specs.Reading.{fault₆};
-ghost use Rattle.shadow.specs.Shadow.{Shadowed, Cell, Kept};
+ghost use Rattle.shadow.specs.Shadow.{Kept};
 ghost use Rattle.shadow.specs.Columns.{Linked, Heights, Measured};
-ghost use Rattle.heights.specs.Search.{NextSubmodel, IsMarked, Marks, Marked, ModelBelow};
+ghost use Rattle.heights.specs.Search.{IsMarked, Marks, Marked, ModelBelow};
 ghost use Rattle.heights.specs.Heights.{higherOf, SettleFromRequires, Grows, Decides};
 use names::Found;
 use shadow::cell;
@@ -28,25 +28,6 @@ const MOST_DEFINITIONS: usize = 1261;
 const UNSEEN: usize = 0;
 
 const IN_PROGRESS: usize = 65535;
-
-// The first submodel of definition d behind the record at q, or the recipe's end.
-fn next_submodel(s: &[u8], w: usize, t: &[u16], d: usize, q: usize) -> usize
-    requires { ⌜ Linked (recipeAt w (now s)) (now t) × In d (definitions (recipeAt w (now s))) × In q (places (recipeAt w (now s))) × (d ≤ q) ⌝ }
-    ensures { λ r. ⌜ NextSubmodel (recipeAt w (now (s .entry))) d q r ⌝ }
-{
-    let mut p = q + recipe::record_length(s[q], w);
-    while p < s.len() {
-        if cell(t, p, shadow::DEFINITION_OF) != d {
-            return s.len();
-        }
-        let k = s[p];
-        if k == 4 {
-            return p;
-        }
-        p += recipe::record_length(k, w);
-    }
-    s.len()
-}
 
 // Marks and queues e, where it is not marked yet, and answers the queue's new end.
 fn enqueue(mark: &mut [u8], queue: &mut [u16], tail: usize, e: usize) -> usize
@@ -76,10 +57,10 @@ fn expand(
     ensures { λ r. ⌜ Marked (ModelBelow (recipeAt w (now (s .entry))) e) (now (mark .entry)) (now (queue .entry)) tail (now (mark .exit)) (now (queue .exit)) r × ((x : ℕ) → ModelBelow (recipeAt w (now (s .entry))) e x → IsMarked (now (mark .exit)) x) ⌝ }
 {
     let mut end = tail;
-    let mut p = next_submodel(s, w, t, e, e);
+    let mut p = shadow::next_submodel(s, w, t, e);
     while p < s.len() {
         end = enqueue(mark, queue, end, cell(t, p, shadow::MODEL));
-        p = next_submodel(s, w, t, e, p);
+        p = shadow::next_submodel(s, w, t, p);
     }
     end
 }
@@ -121,18 +102,6 @@ fn first_cycle(s: &[u8], w: usize, t: &[u16]) -> Found
     Found::Nothing
 }
 
-// The cell HEIGHT of each record is 0: no definition is seen yet.
-fn clear_heights(s: &[u8], w: usize, t: &mut [u16])
-    requires { ⌜ Shadowed (recipeAt w (now s)) (now t) ⌝ }
-    ensures { λ r. ⌜ Kept (recipeAt w (now (s .entry))) (6 ∷ []) (now (t .entry)) (now (t .exit)) × Cell (places (recipeAt w (now (s .entry)))) 6 (λ p. 0) (now (t .exit)) ⌝ }
-{
-    let mut p = 0;
-    while p < s.len() {
-        set_cell(t, p, shadow::HEIGHT, UNSEEN);
-        p += recipe::record_length(s[p], w);
-    }
-}
-
 // The greater of two heights.
 fn higher(a: usize, b: usize) -> usize
     ensures { λ r. ⌜ r ≡ higherOf a b ⌝ }
@@ -157,14 +126,14 @@ fn settle_from(s: &[u8], w: usize, t: &mut [u16], d: usize) -> bool
     }
     set_cell(t, d, shadow::HEIGHT, IN_PROGRESS);
     let mut h = 0;
-    let mut p = next_submodel(s, w, t, d, d);
+    let mut p = shadow::next_submodel(s, w, t, d);
     while p < s.len() {
         let e = cell(t, p, shadow::MODEL);
         if !settle_from(s, w, t, e) {
             return false;
         }
         h = higher(h, cell(t, e, shadow::HEIGHT));
-        p = next_submodel(s, w, t, d, p);
+        p = shadow::next_submodel(s, w, t, p);
     }
     set_cell(t, d, shadow::HEIGHT, h + 1);
     true
@@ -175,7 +144,7 @@ fn settle(s: &[u8], w: usize, t: &mut [u16]) -> bool
     requires { ⌜ Linked (recipeAt w (now s)) (now t) ⌝ }
     ensures { λ r. ⌜ Kept (recipeAt w (now (s .entry))) (6 ∷ []) (now (t .entry)) (now (t .exit)) × Decides (recipeAt w (now (s .entry))) (Heights (recipeAt w (now (s .entry))) (now (t .exit))) r ⌝ }
 {
-    clear_heights(s, w, t);
+    shadow::clear_cells(s, w, t, shadow::HEIGHT);
     let mut p = 0;
     while p < s.len() {
         let d = cell(t, p, shadow::DEFINITION_OF);

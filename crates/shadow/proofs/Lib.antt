@@ -4,3 +4,4 @@ pub mod Columns
 pub mod Counting
 pub mod Numbering
 pub mod Clearing
+pub mod Submodels

@@ -1,3 +1,4 @@
 -- The shadow of a recipe: one table that has thirteen cells for each record, and what each cell means.
 pub mod Shadow
 pub mod Columns
+pub mod Submodels

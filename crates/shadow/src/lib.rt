@@ -1,12 +1,15 @@
 // The shadow of a recipe: one lent table for all that is known of its records. Cell k of the record at p is t[p + k]; `specs/Columns.antt` has what each cell means.
-// For the floors above: the cells' numbers, cell and set_cell; clear_cells; number_records, which fills the cells 0 to 2.
+// For the floors above: the cells' numbers, cell and set_cell; clear_cells; number_records, which fills the cells 0 to 2; next_submodel.
 ghost use mathlib.Core.Path.{_≡_};
 ghost use mathlib.Core.List.{[], _∷_};
 ghost use Prim.Native.Nat.{_+_, _<_};
 ghost use lib.ListN.{length, getD, set};
+ghost use Rattle.names.specs.Lists.{In};
+ghost use Rattle.recipe.specs.Definitions.{holder};
 ghost use Rattle.recipe.specs.Records.{places, recipeAt};
 ghost use Rattle.shadow.specs.Shadow.{Cell, Kept, Shadowed};
 ghost use Rattle.shadow.specs.Columns.{Numbered};
+ghost use Rattle.shadow.specs.Submodels.{submodelAfter};
 
 pub const DEFINITION_OF: usize = 0;
 
@@ -90,4 +93,24 @@ pub fn number_records(s: &[u8], w: usize, t: &mut [u16])
             p += l;
         }
     }
+}
+
+// The next submodel behind the record at p, of the same definition; the recipe's length where there is none.
+pub fn next_submodel(s: &[u8], w: usize, t: &[u16], p: usize) -> usize
+    requires { ⌜ Numbered (recipeAt w (now s)) (now t) × In p (places (recipeAt w (now s))) ⌝ }
+    ensures { λ r. ⌜ r ≡ submodelAfter (recipeAt w (now (s .entry))) (holder (recipeAt w (now (s .entry))) p) p ⌝ }
+{
+    let d = cell(t, p, DEFINITION_OF);
+    let mut q = p + recipe::record_length(s[p], w);
+    while q < s.len() {
+        if cell(t, q, DEFINITION_OF) != d {
+            return s.len();
+        }
+        let k = s[q];
+        if k == 4 {
+            return q;
+        }
+        q += recipe::record_length(k, w);
+    }
+    s.len()
 }

@@ -5,7 +5,6 @@ pub mod Targets
 pub mod Order
 pub mod Rows
 pub mod Numbering
-pub mod Submodels
 pub mod Walks
 pub mod Trees
 pub mod Threads

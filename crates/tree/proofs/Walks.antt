@@ -29,10 +29,11 @@ use Rattle.shadow.proofs.Columns.{linked-over}
 use Rattle.tree.specs.Faults.{mostElements, mostInstances}
 use Rattle.tree.specs.Numbers.{ahead, total, weight, weightIn}
 use Rattle.tree.specs.Tree.{mostDepth}
-use Rattle.tree.specs.Walk.{Covered, Grown, OffsetRight, WalkKeeps, WalkRequires, deepIn, instsIn, over, rowsIn, rowsOver, submodelAfter}
+use Rattle.shadow.specs.Submodels.{submodelAfter}
+use Rattle.tree.specs.Walk.{Covered, Grown, OffsetRight, WalkKeeps, WalkRequires, deepIn, instsIn, over, rowsIn, rowsOver}
 use Rattle.shadow.proofs.Counting.{submodels-rise}
 use Rattle.tree.proofs.Numbering.{Shallow, total-cong, weight-is}
-use Rattle.tree.proofs.Submodels.{after-further, after-split, after-start, headOf, holder-own}
+use Rattle.shadow.proofs.Submodels.{after-further, after-split, after-start, headOf, holder-own}
 
 -- ---- lists
 pub total-append : (f : ℕ → ℕ) (xs ys : List ℕ) → total f (xs ++ ys) ≡ total f xs + total f ys

@@ -6,7 +6,6 @@ use lib.ListN.{getD, length}
 use lib.Seq.{sets}
 use mathlib.Core.Bool.{Bool, _||_, true}
 use mathlib.Core.List.{List, [], _++_, _∷_}
-use mathlib.Core.Option.{Option·getD}
 use mathlib.Core.Path.{_≡_}
 use Rattle.names.specs.Lists.{In, any, first}
 use Rattle.recipe.specs.Definitions.{definitions, elements, holder, modelOf, submodels}
@@ -16,10 +15,6 @@ use Rattle.shadow.specs.Columns.{Linked}
 use Rattle.tree.specs.Faults.{mostElements, mostInstances}
 use Rattle.tree.specs.Numbers.{ahead, total, weightIn}
 use Rattle.tree.specs.Tree.{Submodels, definitionBelow, mostDepth}
-
--- the first submodel of d behind p, or the recipe's length where there is none
-unfoldable pub submodelAfter : Recipe → ℕ → ℕ → ℕ
-submodelAfter s d p = Option·getD (first (ltb p) (submodels s d)) (length (s .bytes))
 
 -- the instances of the tree below an instance of d, with it, looked at n deep
 unfoldable pub instsIn : ℕ → Recipe → ℕ → ℕ

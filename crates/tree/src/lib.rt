@@ -6,13 +6,11 @@ ghost use mathlib.Core.List.{[], _∷_};
 ghost use Prim.Native.Nat.{_*_, _+_, _≤_, _<_};
 ghost use lib.ListN.{length, getD};
 ghost use lib.Seq.{sets};
-ghost use Rattle.names.specs.Lists.{In};
-ghost use Rattle.recipe.specs.Records.{recipeAt, places};
-ghost use Rattle.recipe.specs.Definitions.{holder};
-ghost use Rattle.shadow.specs.Columns.{Numbered, Measured};
+ghost use Rattle.recipe.specs.Records.{recipeAt};
+ghost use Rattle.shadow.specs.Columns.{Measured};
 ghost use Rattle.tree.specs.Faults.{isTooLarge};
 ghost use Rattle.tree.specs.Tree.{treeElements};
-ghost use Rattle.tree.specs.Walk.{over, submodelAfter, WalkRequires, Grown, WalkKeeps};
+ghost use Rattle.tree.specs.Walk.{over, WalkRequires, Grown, WalkKeeps};
 ghost use Rattle.tree.specs.Planted.{Planted, ThreadRequires, Threaded};
 use shadow::cell;
 use shadow::set_cell;
@@ -68,26 +66,6 @@ fn put_row(inst: &mut [u16], i: usize, d: usize, depth: usize, e: usize, sub: us
     set_cell(inst, 6 * i, NEXT_SAME, 0);
 }
 
-// The next submodel behind the record at p, of the same definition; the recipe's length where there is none.
-fn next_submodel(s: &[u8], w: usize, t: &[u16], p: usize) -> usize
-    requires { ⌜ Numbered (recipeAt w (now s)) (now t) × In p (places (recipeAt w (now s))) ⌝ }
-    ensures { λ r. ⌜ r ≡ submodelAfter (recipeAt w (now (s .entry))) (holder (recipeAt w (now (s .entry))) p) p ⌝ }
-{
-    let d = cell(t, p, shadow::DEFINITION_OF);
-    let mut q = p + recipe::record_length(s[p], w);
-    while q < s.len() {
-        if cell(t, q, shadow::DEFINITION_OF) != d {
-            return s.len();
-        }
-        let k = s[q];
-        if k == 4 {
-            return q;
-        }
-        q += recipe::record_length(k, w);
-    }
-    s.len()
-}
-
 // The tree below the instance of row i, which is written: the rows behind it, its elements numbered from e on, and the offsets of its submodels; `left` deep at most.
 fn walk(
     s: &[u8],
@@ -104,7 +82,7 @@ fn walk(
     let d = cell(inst, 6 * i, DEFINITION);
     let mut j = i + 1;
     let mut x = e + cell(t, d, shadow::ELEMENT_COUNT);
-    let mut p = next_submodel(s, w, t, d);
+    let mut p = shadow::next_submodel(s, w, t, d);
     while p < s.len() {
         let m = cell(t, p, shadow::MODEL);
         let c = cell(t, m, shadow::ELEMENT_COUNT);
@@ -120,7 +98,7 @@ fn walk(
         }
         j = r.insts;
         x = r.elems;
-        p = next_submodel(s, w, t, p);
+        p = shadow::next_submodel(s, w, t, p);
     }
     walk_answer(true, j, x)
 }

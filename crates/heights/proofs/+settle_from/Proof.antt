@@ -10,13 +10,13 @@ use borrow.Fn.Kinds.{In}
 use borrow.Fn.PlainCycle.{Measures, is, falls, and}
 use Rattle.shadow.proofs.Cells.{kept-all, kept-then}
 use Rattle.heights.specs.Heights.{isUnseen, countOf}
-use Rattle.heights.proofs.Along.{linked-room, through-place, through-after}
+use Rattle.heights.proofs.Along.{linked-room, next-on, next-own, through-place}
 use Rattle.heights.proofs.Settling.{SettleLoop, decides-yes, decides-no, linked-heights, enter-place, enter-room, meets-itself, settled-already, enter-linked, enter, now-kept, now-linked, call-falls, call-enters, settle-on, height-low, leave-kept, leave}
 use Rattle.heights.proofs.settle_from.Reads as settle-from
 use Rattle.heights.proofs.settle_from.Kinds as settle-from-kinds
 use Rattle.heights.proofs.+settle_from.Lts-settle_from as lts
 use Rattle.heights.proofs.higher.Reads as higher-reads
-use Rattle.heights.proofs.next_submodel.Reads as next-submodel-reads
+use Rattle.shadow.proofs.next_submodel.Reads as next-submodel-reads
 use Rattle.shadow.proofs.cell.Reads as cell-reads
 use Rattle.shadow.proofs.set_cell.Reads as set-cell-reads
 use Rattle.heights.proofs.+settle_from.{statement}
@@ -85,14 +85,14 @@ module _ (n : ℕ) where
   next-submodel-requires c κs =
       let x = c .before .before .before .before .before .before .before .before .before .before .before .pre .1 in
       let e = c .before .before .before .set-cell .ensures in
-      (enter-linked x e, x .definition, enter-place x, omega arith)
+      (enter-linked x e .numbered, enter-place x)
 
   loop-holds : lts.Need-loop-holds (calls n) (at n) settle-from.Post Inv-loop μ-loop
   loop-holds c =
       let x = c .before .before .before .before .before .before .before .before .before .before .before .before .pre .1 in
       let e = c .before .before .before .before .set-cell .ensures in
       let z = sym (c .before .before .before .before .before .before .before .before .cell .ensures .0) ∙ c .before .before .before .before .before .before .if2 .left in
-      enter x e z (c .next-submodel .ensures)
+      enter x e z (next-own (x .definition) (c .next-submodel .ensures))
 
   cell-requires-2 : lts.Need-cell-requires-2 (calls n) (at n) settle-from.Post Inv-loop μ-loop
   cell-requires-2 c κs =
@@ -158,11 +158,14 @@ module _ (n : ℕ) where
       let l = c .before .before .before .before .before .before .before .before .before .before .before .loop-test .taken in
       let g = now-linked x e z u in
       let v = c .before .before .before .before .before .before .before .settle-from .ensures in
-      (linked-heights (v .0) g, x .definition, through-place (u .through) g l, through-after (u .through) g l)
+      (linked-heights (v .0) g .numbered, through-place (u .through) g l)
 
   loop-less : lts.Need-loop-less (calls n) (at n) settle-from.Post Inv-loop μ-loop
   loop-less c =
-      omega (arith, c .next-submodel2 .ensures .after, c .next-submodel2 .ensures .within)
+      let u = c .before .before .before .before .before .before .before .before .before .before .before .before .before .loop .inv in
+      let l = c .before .before .before .before .before .before .before .before .before .before .before .before .loop-test .taken in
+      let m = next-on (u .through) l (c .next-submodel2 .ensures) in
+      omega (arith, m .after, m .within)
 
   loop-again : lts.Need-loop-again (calls n) (at n) settle-from.Post Inv-loop μ-loop
   loop-again c =
@@ -173,7 +176,7 @@ module _ (n : ℕ) where
       let l = c .before .before .before .before .before .before .before .before .before .before .before .before .loop-test .taken in
       let q = c .before .before .before .before .before .before .before .before .before .before .cell2 .ensures .0 in
       let v = c .before .before .before .before .before .before .before .before .settle-from .ensures in
-      settle-on x e z u l q (v .1 .yes (not-false _ (c .before .before .before .before .before .if3 .left))) (c .before .before .before .cell3 .ensures .0) (c .before .before .higher .ensures) (c .next-submodel2 .ensures)
+      settle-on x e z u l q (v .1 .yes (not-false _ (c .before .before .before .before .before .if3 .left))) (c .before .before .before .cell3 .ensures .0) (c .before .before .higher .ensures) (next-on (u .through) l (c .next-submodel2 .ensures))
 
   add-set-cell : lts.Need-add-set-cell (calls n) (at n) settle-from.Post Inv-loop μ-loop
   add-set-cell c =

@@ -5,7 +5,7 @@ use native.Mathlib.Omega.{arith}
 use mathlib.Core.Path.{sym, _∙_}
 use lib.ListN.{length}
 use Rattle.recipe.proofs.Spans.{definition-place}
-use Rattle.heights.proofs.Along.{linked-room, definition-low, through-place, through-in, through-after}
+use Rattle.heights.proofs.Along.{definition-low, linked-room, next-on, next-own, through-in, through-place}
 use Rattle.heights.proofs.Search.{ExpandLoop, expand-start, expand-on, expand-end}
 use Rattle.heights.proofs.expand.Statement.{statement}
 use Rattle.heights.proofs.expand.Tie as tie
@@ -17,10 +17,10 @@ abbrev μ-loop : tie.MeasureT-loop
 μ-loop s w t mark₀ queue₀ tail e end₀ p₀ mark queue end p = length s - p
 
 next-submodel-requires : tie.Need-next-submodel-requires Inv-loop μ-loop
-next-submodel-requires c κs = let at-start = c .before .before .before .before in ((at-start .pre .0), at-start .pre .1, definition-place _ _ (at-start .pre .1) .0, omega arith)
+next-submodel-requires c κs = let at-start = c .before .before .before .before in (at-start .pre .0 .numbered, definition-place _ _ (at-start .pre .1) .0)
 
 loop-holds : tie.Need-loop-holds Inv-loop μ-loop
-loop-holds c = expand-start (c .before .before .before .before .before .pre .2) (c .next-submodel .ensures)
+loop-holds c = let at-start = c .before .before .before .before .before in expand-start (at-start .pre .2) (next-own (at-start .pre .1) (c .next-submodel .ensures))
 
 cell-requires : tie.Need-cell-requires Inv-loop μ-loop
 cell-requires c κs =
@@ -35,15 +35,18 @@ enqueue-requires c κs =
 next-submodel-requires-2 : tie.Need-next-submodel-requires-2 Inv-loop μ-loop
 next-submodel-requires-2 c κs =
     let at-loop-test = c .before .before .before .before .before .before .before .before in let at-loop = at-loop-test .before in let at-start = at-loop .before .before .before .before .before .before in
-    ((at-start .pre .0), at-start .pre .1, (through-place (at-loop .loop .inv .through) (at-start .pre .0) (at-loop-test .loop-test .taken)), through-after (at-loop .loop .inv .through) (at-start .pre .0) (at-loop-test .loop-test .taken))
+    (at-start .pre .0 .numbered, through-place (at-loop .loop .inv .through) (at-start .pre .0) (at-loop-test .loop-test .taken))
 
 loop-less : tie.Need-loop-less Inv-loop μ-loop
-loop-less c = omega (arith, c .next-submodel2 .ensures .after, c .next-submodel2 .ensures .within)
+loop-less c =
+    let at-loop-test = c .before .before .before .before .before .before .before .before .before in let at-loop = at-loop-test .before in
+    let n = next-on (at-loop .loop .inv .through) (at-loop-test .loop-test .taken) (c .next-submodel2 .ensures) in
+    omega (arith, n .after, n .within)
 
 loop-again : tie.Need-loop-again Inv-loop μ-loop
 loop-again c =
     let at-enqueue = c .before .before .before .before .before in let at-cell = at-enqueue .before in let at-loop-test = at-cell .before .before .before in let at-loop = at-loop-test .before in let at-start = at-loop .before .before .before .before .before .before in
-    expand-on (at-loop .loop .inv) (at-start .pre .0) (at-loop-test .loop-test .taken) (at-cell .cell .ensures .0) (at-enqueue .enqueue .ensures) (c .next-submodel2 .ensures)
+    expand-on (at-loop .loop .inv) (at-start .pre .0) (at-loop-test .loop-test .taken) (at-cell .cell .ensures .0) (at-enqueue .enqueue .ensures) (next-on (at-loop .loop .inv .through) (at-loop-test .loop-test .taken) (c .next-submodel2 .ensures))
 
 same-length : tie.Need-same-length Inv-loop μ-loop
 same-length c = c .before .loop .inv .marked .right .marks ∙ sym (c .before .before .before .before .before .before .before .pre .2 .marks)

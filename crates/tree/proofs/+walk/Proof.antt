@@ -14,7 +14,7 @@ use Rattle.tree.proofs.walk.Kinds as walk-kinds
 use Rattle.tree.proofs.+walk.Lts-walk as walk-lts
 use Rattle.shadow.proofs.cell.Reads as cell-reads
 use Rattle.shadow.proofs.set_cell.Reads as set-cell-reads
-use Rattle.tree.proofs.next_submodel.Reads as next-submodel-reads
+use Rattle.shadow.proofs.next_submodel.Reads as next-submodel-reads
 use Rattle.tree.proofs.put_row.Reads as put-row-reads
 use Rattle.tree.proofs.walk_answer.Reads as walk-answer-reads
 use Rattle.tree.proofs.+walk.{statement}

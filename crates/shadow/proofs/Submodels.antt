@@ -1,7 +1,7 @@
 -- The submodels of a definition, one behind another: which is the next behind a record.
 -- Assumes nothing.
 use Prim.Native.Nat.{_+_, _<_, _≤_, suc, zero, ℕ}
-use borrow.Author.Tests.{eq-eqb, eqb-true, le-ltb, lt-ltb, ltb-true, ne-eqb, not-true}
+use borrow.Author.Tests.{eq-eqb, eqb-true, le-ltb, lt-ltb, ltb-false, ltb-true, ne-eqb, not-true}
 use lib.Dec.{eqb, ltb}
 use lib.ListN.{getD, length}
 use mathlib.Core.Bool.{_&&_, false, not, true}
@@ -11,7 +11,7 @@ use mathlib.Core.Option.{Option, Option·getD, some}
 use mathlib.Core.Path.{_∙_, _≡_, ap, refl, sym}
 use native.Mathlib.Omega.{arith}
 use Rattle.names.specs.Lists.{In, first}
-use Rattle.names.proofs.Lists.{append-right, first-none, in-append, in-keep, keep-in, some-first}
+use Rattle.names.proofs.Lists.{append-right, first-none, in-append, in-keep, keep-in, none-first, some-first}
 use Rattle.names.proofs.ListOrder.{Rising, rising-in}
 use Rattle.names.proofs.Tests.{and-left, apart, both, by-cases, by-option, not-both, three}
 use Rattle.recipe.specs.Definitions.{definitions, holder, recordsOf, submodels}
@@ -20,11 +20,11 @@ use Rattle.recipe.proofs.Definitions.{in-submodels}
 use Rattle.recipe.proofs.Going.{Going}
 use Rattle.recipe.proofs.Reading.{next-more, place-low, readable, readable-fits}
 use Rattle.recipe.proofs.Spans.{definition-place, holder-above, holder-below, holder-rise}
 use Rattle.shadow.specs.Shadow.{Shadowed}
 use Rattle.shadow.specs.Columns.{Numbered}
 use Rattle.shadow.proofs.Cells.{Walking, kept-all, next-apart, row-room, step-next, walk-fits, walk-one, walk-place, walk-room}
-use Rattle.tree.specs.Walk.{submodelAfter}
+use Rattle.shadow.specs.Submodels.{submodelAfter}
 use Rattle.shadow.proofs.Counting.{submodels-rise}
 
 -- the first of a rising list that is behind p, where a is the least of those
 first-behind : (p l a : ℕ) (xs : List ℕ) → Rising l xs → In a xs → p < a → ((x : ℕ) → In x xs → p < x → a ≤ x) → first (ltb p) xs ≡ some a
@@ -34,6 +34,15 @@ first-behind p l a (x ∷ xs) r (inr i) h k =
     let m = rising-in (suc x) xs a (r .1) i in
     rw (le-ltb p x (three p x (λ u. absurd (omega (arith, k x (inl refl) u))) (λ u. omega arith) (λ u. omega arith)), first)
     (first-behind p (suc x) a xs (r .1) i h (λ y j. k y (inr j)))
+
+-- and it is the least of those
+first-least : (p l a : ℕ) (xs : List ℕ) → Rising l xs → first (ltb p) xs ≡ some a → (x : ℕ) → In x xs → p < x → a ≤ x
+first-least p l a [] r e x i h = absurd i
+first-least p l a (y ∷ ys) r e x i h =
+    by-cases (ltb p y)
+    (λ b. let f : some y ≡ some a = rw (b, first) at e in let q : y ≡ a = cc in ⊎-elim (λ (k : x ≡ y). omega arith) (λ (j : In x ys). omega (arith, rising-in (suc y) ys x (r .1) j)) i)
+    (λ b. let f : first (ltb p) ys ≡ some a = rw (b, first) at e in
+    ⊎-elim (λ (k : x ≡ y). absurd (omega (arith, ltb-false p y b))) (λ (j : In x ys). first-least p (suc y) a ys (r .1) f x j h) i)
 
 -- of a rising list, those before m and those behind it
 before : (l : ℕ) (xs : List ℕ) (m : ℕ) (ms : List ℕ) (x : ℕ) → Rising l (xs ++ m ∷ ms) → In x xs → x < m
@@ -68,6 +77,28 @@ module _ (s : Recipe) where
       by-option (first (ltb p) (submodels s d))
       (λ e. rw e l)
       (λ a e. rw e (ltb-true p a (some-first (ltb p) (submodels s d) a e .1)))
+
+  -- it is one, or the end, and there is none between
+  pub after-within : (d p : ℕ) → submodelAfter s d p ≤ length (s .bytes)
+  unfolding submodelAfter
+  after-within d p =
+      by-option (first (ltb p) (submodels s d))
+      (λ e. rw e (omega arith))
+      (λ a e. rw e (omega (arith, place-low s a (in-submodels s d a (some-first (ltb p) (submodels s d) a e .0) .placed))))
+
+  pub after-one : (d p : ℕ) → submodelAfter s d p < length (s .bytes) → In (submodelAfter s d p) (submodels s d)
+  unfolding submodelAfter
+  after-one d p l =
+      by-option (first (ltb p) (submodels s d))
+      (λ e. let k : length (s .bytes) < length (s .bytes) = rw e at l in absurd (omega arith))
+      (λ a e. rw e (some-first (ltb p) (submodels s d) a e .0))
+
+  pub after-first : (d p m : ℕ) → In m (submodels s d) → p < m → m < submodelAfter s d p → ⊥
+  unfolding submodelAfter
+  after-first d p m i h l =
+      by-option (first (ltb p) (submodels s d))
+      (λ e. omega (arith, ltb-false p m (none-first (ltb p) (submodels s d) m e i)))
+      (λ a e. let k : m < a = rw e at l in omega (arith, first-least p 0 a (submodels s d) (submodels-rise s d) e m i h))
 
   -- a submodel of d stands behind d
   pub submodel-behind : (d m : ℕ) → In d (definitions s) → In m (submodels s d) → d < m

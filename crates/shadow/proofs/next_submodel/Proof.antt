@@ -1,13 +1,13 @@
--- `tree::next_submodel` meets its contract: no submodel of the definition stands between the record and q.
+-- `shadow::next_submodel` meets its contract: no submodel of the definition stands between the record and q.
 -- Assumes nothing.
 use borrow.Author.Needs.{needs}
 use Prim.Native.Nat.{_-_}
 use native.Mathlib.Omega.{arith}
 use lib.ListN.{length}
 use Rattle.recipe.proofs.Reading.{place-low}
-use Rattle.tree.proofs.Submodels.{SubmodelLoop, here-fits, here-room, own-fits, own-room, search-end, search-found, search-more, search-start, search-stop}
-use Rattle.tree.proofs.next_submodel.Statement.{statement}
-use Rattle.tree.proofs.next_submodel.Tie as tie
+use Rattle.shadow.proofs.Submodels.{SubmodelLoop, here-fits, here-room, own-fits, own-room, search-end, search-found, search-more, search-start, search-stop}
+use Rattle.shadow.proofs.next_submodel.Statement.{statement}
+use Rattle.shadow.proofs.next_submodel.Tie as tie
 
 abbrev Inv-loop : tie.InvT-loop
 Inv-loop s w t p d q₀ q = SubmodelLoop (record { width = w; bytes = s }) t p d q
