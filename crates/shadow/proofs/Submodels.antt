@@ -12,7 +12,7 @@ use mathlib.Core.Path.{_∙_, _≡_, ap, refl, sym}
 use native.Mathlib.Omega.{arith}
 use Rattle.names.specs.Lists.{In, first}
 use Rattle.names.proofs.Lists.{append-right, first-none, in-append, in-keep, keep-in, none-first, some-first}
-use Rattle.names.proofs.ListOrder.{Rising, rising-in}
+use Rattle.names.proofs.ListOrder.{Rising, first-lowest, rising-in}
 use Rattle.names.proofs.Tests.{and-left, apart, both, by-cases, by-option, not-both, three}
 use Rattle.recipe.specs.Definitions.{definitions, holder, recordsOf, submodels}
 use Rattle.recipe.specs.Records.{Recipe, isModel, isReadable, isSubmodel, kind, next, places, placesFrom, recordLength, stop, stopFrom}
@@ -34,15 +34,6 @@ first-behind p l a (x ∷ xs) r (inr i) h k =
     let m = rising-in (suc x) xs a (r .1) i in
     rw (le-ltb p x (three p x (λ u. absurd (omega (arith, k x (inl refl) u))) (λ u. omega arith) (λ u. omega arith)), first)
     (first-behind p (suc x) a xs (r .1) i h (λ y j. k y (inr j)))
-
--- and it is the least of those
-first-least : (p l a : ℕ) (xs : List ℕ) → Rising l xs → first (ltb p) xs ≡ some a → (x : ℕ) → In x xs → p < x → a ≤ x
-first-least p l a [] r e x i h = absurd i
-first-least p l a (y ∷ ys) r e x i h =
-    by-cases (ltb p y)
-    (λ b. let f : some y ≡ some a = rw (b, first) at e in let q : y ≡ a = cc in ⊎-elim (λ (k : x ≡ y). omega arith) (λ (j : In x ys). omega (arith, rising-in (suc y) ys x (r .1) j)) i)
-    (λ b. let f : first (ltb p) ys ≡ some a = rw (b, first) at e in
-    ⊎-elim (λ (k : x ≡ y). absurd (omega (arith, ltb-false p y b))) (λ (j : In x ys). first-least p (suc y) a ys (r .1) f x j h) i)
 
 -- of a rising list, those before m and those behind it
 before : (l : ℕ) (xs : List ℕ) (m : ℕ) (ms : List ℕ) (x : ℕ) → Rising l (xs ++ m ∷ ms) → In x xs → x < m
@@ -98,7 +89,7 @@ module _ (s : Recipe) where
   after-first d p m i h l =
       by-option (first (ltb p) (submodels s d))
       (λ e. omega (arith, ltb-false p m (none-first (ltb p) (submodels s d) m e i)))
-      (λ a e. let k : m < a = rw e at l in omega (arith, first-least p 0 a (submodels s d) (submodels-rise s d) e m i h))
+      (λ a e. let k : m < a = rw e at l in omega (arith, ltb-false p m (first-lowest (ltb p) 0 (submodels s d) a m (submodels-rise s d) e i k)))
 
   -- a submodel of d stands behind d
   pub submodel-behind : (d m : ℕ) → In d (definitions s) → In m (submodels s d) → d < m
