@@ -30,7 +30,7 @@ use Rattle.composer.proofs.ByNumber.{element-is}
 use Rattle.composer.proofs.Lengths.{name-field}
 use Rattle.origins.specs.declared.Origin.{Origin}
 use Rattle.origins.specs.Origins.{isNamed, originOf, walkRefused, walkBack, walkedTo, walkAnswer}
-use Rattle.origins.specs.Search.{Fits, OriginRequires, SearchRequires}
+use Rattle.origins.specs.Search.{PrefixFits, OriginRequires, SearchRequires}
 
 module _ (s : Recipe) (f : List ℕ) where
   -- the origin of a name is a survivor, and has that name
@@ -65,7 +65,7 @@ module _ {s : Recipe} {t inst el : List ℕ} {insts elems : ℕ} (C : Composed s
       (first-none (isNamed s f) (survivors s)
       (λ x i. same-false {xs = flatField s (some x)} {ys = f} (λ same. n (sym (ap length same) ∙ name-field s two (L .row₃) (C .targeted .planted .row₇) (L .row₅) x (survivor s x i .0) ∙ sym e))))
 
-  pub search-requires : {f fit : List ℕ} {w : ℕ} → w ≡ flatWidth (s .width) → length f ≡ w → Fits s f fit → SearchRequires s el f fit
+  pub search-requires : {f fit : List ℕ} {w : ℕ} → w ≡ flatWidth (s .width) → length f ≡ w → PrefixFits s f fit → SearchRequires s el f fit
   search-requires e l h = record { naming = naming (C .targeted .planted); rows = C .elements; gones = C .gones; long = l ∙ e; fits = h }
 
   -- the search finds nothing

@@ -23,7 +23,7 @@ use Rattle.flat_names.proofs.Filling.{Behind, around-low, behind, main-prefixes
 use Rattle.flat_names.proofs.Looking.{name-bytes, own-room}
 use Rattle.flat_names.proofs.OneName.{prefix-count}
 use Rattle.flat_names.proofs.Underscores.{behind-most, most-behind}
-use Rattle.origins.specs.Search.{FitRequires, FitsTo, Fits, PrefixRequires, fitOf, prefixEnd}
+use Rattle.origins.specs.Search.{FitRequires, FitsTo, PrefixFits, PrefixRequires, fitOf, prefixEnd}
 
 -- ---- the prefix of the submodel m in f, from l on
 module _ {s : Recipe} {t : List ℕ} {m : ℕ} {f : List ℕ} {l : ℕ} (R : PrefixRequires s t m f l) where
@@ -161,7 +161,7 @@ module _ {s : Recipe} {t inst : List ℕ} {n : ℕ} {f fit₀ : List ℕ} (R : F
       }
 
   module _ {fit₁ fit : List ℕ} {i : ℕ} (g : FitLoop s f fit₁ fit n i) where
-    pub fit-end : n ≤ i → Fits s f fit
+    pub fit-end : n ≤ i → PrefixFits s f fit
     fit-end h = let e : i ≡ length (instances s) = omega (arith, R .planted .rows .count, g .below) in rw e at (g .fits)
 
     module _ (low : i < n) where

@@ -34,8 +34,8 @@ pub record FitsTo (s : Recipe) (f fit : List ℕ) (n : ℕ) : Type 0 where
   pub fits : (i : ℕ) → i < n → getD fit i 0 ≡ fitOf s f i
 
 -- and of all
-abbrev pub Fits : Recipe → List ℕ → List ℕ → Type 0
-Fits s f fit = FitsTo s f fit (length (instances s))
+abbrev pub PrefixFits : Recipe → List ℕ → List ℕ → Type 0
+PrefixFits s f fit = FitsTo s f fit (length (instances s))
 
 -- the name of the record q, with zeros behind it, is all of f from l on
 unfoldable pub endsWith : Recipe → List ℕ → ℕ → ℕ → Bool
@@ -73,7 +73,7 @@ pub record SearchRequires (s : Recipe) (el f fit : List ℕ) : Type 0 where
   pub rows : ElementRows s el
   pub gones : Gones s el
   pub long : length f ≡ flatWidth (s .width)
-  pub fits : Fits s f fit
+  pub fits : PrefixFits s f fit
 
 -- instance i, by the rows of the instances
 pub record PathRequires (s : Recipe) (inst : List ℕ) (i : ℕ) : Type 0 where

@@ -14,7 +14,7 @@ ghost use Rattle.compose.specs.Composed.{Composed};
 ghost use Rattle.composer.specs.Verdicts.{recipeOf};
 ghost use Rattle.composer.specs.Writing.{elementAt};
 ghost use Rattle.origins.specs.Origins.{originOf, walkedTo, walkRefused, walkAnswer, walkBack};
-ghost use Rattle.origins.specs.Search.{prefixEnd, Fits, endsWith, isOrigin, PrefixRequires, FitRequires, NameRequires, SearchRequires, PathRequires, OriginRequires};
+ghost use Rattle.origins.specs.Search.{prefixEnd, PrefixFits, endsWith, isOrigin, PrefixRequires, FitRequires, NameRequires, SearchRequires, PathRequires, OriginRequires};
 use elements::GONE;
 use elements::INSTANCE;
 use elements::RECORD;
@@ -57,7 +57,7 @@ fn prefix_end(s: &[u8], w: usize, t: &[u16], m: usize, name: &[u8], l: usize) ->
 // For each instance one more than how many bytes its prefixes have, if the name begins with them; else 0.
 fn fit_prefixes(s: &[u8], w: usize, t: &[u16], inst: &[u16], n: usize, name: &[u8], fit: &mut [u16])
     requires { ⌜ FitRequires (recipeAt w (now s)) (now t) (now inst) n (now name) (now fit) ⌝ }
-    ensures { λ _. ⌜ Fits (recipeAt w (now (s .entry))) (now (name .entry)) (now (fit .exit)) ⌝ }
+    ensures { λ _. ⌜ PrefixFits (recipeAt w (now (s .entry))) (now (name .entry)) (now (fit .exit)) ⌝ }
 {
     fit[0] = 1;
     let mut i = 1;

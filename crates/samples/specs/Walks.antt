@@ -20,18 +20,18 @@ unfoldable pub flatNameField : String → List ℕ
 flatNameField n = padded (flatWidth nameWidth) (characters n)
 
 -- a recipe, a name, and the answer
-pub record Walk : Type 0 where
+pub record WalkSample : Type 0 where
   pub recipe : Recipe
   pub name : List ℕ
   pub answer : Origin
 
 -- the name is walked back along the path to the element at e
-unfoldable pub walked : List ℕ → List ℕ → List ℕ → ℕ → Walk
+unfoldable pub walked : List ℕ → List ℕ → List ℕ → ℕ → WalkSample
 walked s f path e =
     record { recipe = recipeOf s; name = f; answer = record { number = 0; place = 0; depth = length path; submodel = path ++ replicate (4 - length path) 0; element = e } }
 
 -- it is refused with number n at place p: "on a refusal depth and all offsets are" 0
-unfoldable pub unwalked : List ℕ → List ℕ → ℕ → ℕ → Walk
+unfoldable pub unwalked : List ℕ → List ℕ → ℕ → ℕ → WalkSample
 unwalked s f n p = record { recipe = recipeOf s; name = f; answer = record { number = n; place = p; depth = 0; submodel = 0 ∷ 0 ∷ 0 ∷ 0 ∷ []; element = 0 } }
 
 -- R with a parameter a__s in top, so that the prefix of a is a___
@@ -42,7 +42,7 @@ lengthened = sample c1 aOfCell (cForV ++ element "a__s" 3 "" "")
 unfoldable pub deepest : List ℕ
 deepest = line5 ++ element "k" 3 "" ""
 
-unfoldable pub walks : List Walk
+unfoldable pub walks : List WalkSample
 walks =
     -- "the depth, the offsets of the submodel records from main downward, and the element record's offset"
     walked sampleR (flatNameField "a__s") (51 ∷ []) 165
@@ -74,7 +74,7 @@ walks =
     ∷ []
 
 -- walking back answers so
-unfoldable pub walkHoldsOf : Walk → Bool
+unfoldable pub walkHoldsOf : WalkSample → Bool
 walkHoldsOf c =
     eqb (walkBack (c .recipe) (c .name) .number) (c .answer .number)
     && eqb (walkBack (c .recipe) (c .name) .place) (c .answer .place)
