@@ -346,7 +346,8 @@ def fill(crate, answers, uses={}):
 def unused(crate, write):
     for path in sorted(glob.glob("crates/%s/**/*.antt" % crate, recursive=True)):
         text = open(path).read()
-        body = re.sub(r"(?m)^use .*$", "", text)
+        # What a comment names is not used by it.
+        body = re.sub(r"(?m)^use .*$|--.*$", "", text)
 
         def is_used(imported):
             name = imported.split(" as ")[-1]

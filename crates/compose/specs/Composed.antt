@@ -7,8 +7,8 @@ use mathlib.Core.Option.{none}
 use mathlib.Core.Path.{_≡_}
 use Rattle.recipe.specs.Records.{Recipe}
 use Rattle.tree.specs.Faults.{fault₁₀}
+use Rattle.tree.specs.Tree.{treeElements}
 use Rattle.targets.specs.Targeted.{Targeted}
-use Rattle.tree.specs.Tree.{instances, treeElements}
 use Rattle.marks.specs.Faults.{fault₉, fault₁₁, fault₁₂}
 use Rattle.elements.specs.Columns.{ElementRows, Gones, Nexts}
 use Rattle.references.specs.Ends.{Ends}

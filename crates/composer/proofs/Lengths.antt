@@ -10,7 +10,7 @@ use Rattle.names.specs.Lists.{In}
 use Rattle.names.proofs.Tests.{some-map, the-some}
 use Rattle.names.proofs.Lists.{padded-length, joined-length}
 use Rattle.flat_table.specs.Table.{flatWidth, flatLength}
-use Rattle.recipe.specs.Records.{Recipe, name}
+use Rattle.recipe.specs.Records.{Recipe}
 use Rattle.recipe.specs.Reading.{fault₃, fault₅}
 use Rattle.tree.specs.Tree.{Node, treeElements, parentOf, referenceOf}
 use Rattle.tree.specs.Faults.{fault₇}

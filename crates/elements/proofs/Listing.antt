@@ -16,7 +16,7 @@ use Rattle.recipe.specs.Definitions.{holder}
 use Rattle.recipe.specs.Records.{Recipe, isElement, isModel, kind, next, places}
 use Rattle.shadow.specs.Columns.{order}
 use Rattle.tree.specs.Numbers.{number}
-use Rattle.tree.specs.Tree.{Node, instances, node, nodes, treeElements}
+use Rattle.tree.specs.Tree.{Node, node, nodes, treeElements}
 use Rattle.tree.proofs.Numbering.{number-few, number-inj}
 use Rattle.marks.specs.Cells.{MarksRequires}
 use Rattle.elements.specs.Columns.{ElementRows}

@@ -13,7 +13,6 @@ use Prim.Native.Nat.{_*_, _+_, _<_, _≤_, ℕ}
 use lib.ListN.{getD, length}
 use mathlib.Core.Bool.{cond}
 use mathlib.Core.List.{List, []}
-use mathlib.Core.Option.{none}
 use mathlib.Core.Path.{_≡_}
 use Rattle.names.specs.Lists.{In}
 use Rattle.recipe.specs.Records.{Recipe}

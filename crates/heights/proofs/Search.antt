@@ -13,7 +13,7 @@ use Rattle.names.specs.Lists.{In}
 use Rattle.names.proofs.Tests.{by-cases, three, both-ways}
 use Rattle.names.proofs.Tables.{getD-zeros}
 use Rattle.recipe.specs.Records.{Recipe}
-use Rattle.recipe.specs.Definitions.{definitions, submodels, modelOf}
+use Rattle.recipe.specs.Definitions.{definitions, modelOf}
 use Rattle.recipe.specs.Reaching.{Reach, direct, onward, reaches}
 use Rattle.recipe.proofs.Definitions.{model-in}
 use Rattle.recipe.proofs.Reaching.{plain-reaches, reaches-plain, reach-in, reach-append}

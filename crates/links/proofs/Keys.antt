@@ -8,13 +8,13 @@ use native.Mathlib.Omega.{arith}
 use lib.ListN.{length}
 use lib.Dec.{eqb}
 use borrow.Author.Tests.{eqb-true, eqb-false, eq-eqb, ne-eqb}
-use Rattle.names.specs.Lists.{In, first, same, padded}
+use Rattle.names.specs.Lists.{In, same, padded}
 use Rattle.names.specs.Names.{text, isName}
 use Rattle.names.proofs.Names.{name-padding}
 use Rattle.names.proofs.Tests.{by-cases, both-ways, both, and-left, and-right}
 use Rattle.names.proofs.Lists.{same-true, eq-same}
 use Rattle.name_index.specs.Hash.{hashOf}
-use Rattle.recipe.specs.Records.{Recipe, isKnown, kind, places, isModel, isElement, isPort, isSubmodel, isReplacedBy, field, name}
+use Rattle.recipe.specs.Records.{Recipe, isKnown, kind, places, isModel, isElement, isPort, isSubmodel, isReplacedBy}
 use Rattle.recipe.specs.Definitions.{holder, isDeclared}
 use Rattle.recipe.specs.Reading.{shareNames}
 use Rattle.recipe.proofs.Reading.{known, readable}

@@ -10,7 +10,7 @@ use lib.ListN.{length, getD, take, drop, length-drop, length-append}
 use lib.Seq.{length-take-le, take-at}
 use lib.Dec.{ltb}
 use borrow.Author.Tests.{ltb-true, lt-ltb, eq-eqb}
-use Rattle.names.specs.Lists.{In, any, first, same}
+use Rattle.names.specs.Lists.{In, any, same}
 use Rattle.names.specs.Names.{fieldAt}
 use Rattle.names.specs.Scans.{scan}
 use Rattle.names.proofs.Tests.{both-ways, both, and-left, and-right, not-both, three}

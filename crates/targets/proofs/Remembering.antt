@@ -25,7 +25,7 @@ use Rattle.tree.specs.Faults.{fault₈, isTargetFault}
 use Rattle.tree.specs.Numbers.{numberIn, reach}
 use Rattle.targets.specs.Targeted.{Aimed}
 use Rattle.targets.specs.Resolve.{Keeps, Memo, OffsetOf, ResolveRequires, Resolved, TargetNumbers}
-use Rattle.tree.specs.Tree.{Node, definitionBelow, target}
+use Rattle.tree.specs.Tree.{Node, definitionBelow}
 use Rattle.targets.proofs.Resolving.{element-keeps, named-place, named-row, no-target, not-zero, offset-room, own-row, port-found, port-keeps, port-lower, port-sort}
 use Rattle.tree.proofs.Targets.{target-walk, walk-element}
 

@@ -2,7 +2,7 @@
 -- Assumes nothing.
 use mathlib.Core.Path.{_≡_}
 use Prim.Native.Nat.{ℕ}
-use mathlib.Core.Bool.{true, not, _||_}
+use mathlib.Core.Bool.{true, _||_}
 use mathlib.Core.Option.{none, some}
 use borrow.Author.Tests.{not-false}
 use Rattle.names.specs.Lists.{In, isSome}

@@ -7,7 +7,7 @@ use lib.Seq.{sets}
 use mathlib.Core.Bool.{Bool, _||_, true}
 use mathlib.Core.List.{List, [], _++_, _∷_}
 use mathlib.Core.Path.{_≡_}
-use Rattle.names.specs.Lists.{In, any, first}
+use Rattle.names.specs.Lists.{In, any}
 use Rattle.recipe.specs.Definitions.{definitions, elements, holder, modelOf, submodels}
 use Rattle.recipe.specs.Records.{Recipe}
 use Rattle.shadow.specs.Shadow.{Kept}
