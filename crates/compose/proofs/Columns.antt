@@ -14,10 +14,11 @@ use Rattle.marks.specs.Cells.{MarksRequires}
 use Rattle.elements.specs.Columns.{ElementRows, Gones, Nexts}
 use Rattle.references.specs.Ends.{Ends}
 use Rattle.compose.specs.Composed.{Composed}
-use Rattle.marks.specs.Faults.{fault₉, fault₁₁, fault₁₂}
+use Rattle.marks.specs.Faults.{fault₉, fault₁₁, fault₁₂, fault₂₀}
 use Rattle.elements.specs.Listing.{Listed, Only}
 use Rattle.elements.specs.Steps.{NoSteps}
-use Rattle.elements.proofs.Elements.{column-over, elements-few, rows-over}
+use Rattle.factor_ends.specs.FactorEnds.{FactorsRequires}
+use Rattle.elements.proofs.Elements.{column-over, elements-few, known, rows-over}
 use Rattle.elements.proofs.Listing.{listed-rows}
 
 module _ {s : Recipe} {t inst : List ℕ} {n : ℕ} (T : Targeted s t inst n) where
@@ -42,17 +43,30 @@ module _ {s : Recipe} {t inst : List ℕ} {n : ℕ} (T : Targeted s t inst n) wh
         pub gones-stepped : Gones s el₃
         gones-stepped = column-over s q 2 (omega arith) (λ z. omega arith) g
 
-        pub composed : (el₄ : List ℕ) {elems : ℕ} → fault₉ s ≡ none → fault₁₀ s ≡ none → fault₁₁ s ≡ none → fault₁₂ s ≡ none → elems ≡ length (treeElements s) → Nexts s el₃ → Ends s el₄ → Only 4 el₃ el₄
+        -- what row 20 takes
+        pub factors-ready : (el₄ : List ℕ) → Nexts s el₃ → Only 4 el₃ el₄ → FactorsRequires s t inst el₄
+        factors-ready el₄ x p = record {
+          targeted = ready;
+          chains = record {
+            elements = known T;
+            rows = rows-over s p (omega arith) rows-stepped;
+            nexts = column-over s p 3 (omega arith) (λ z. omega arith) x;
+          };
+          gones = column-over s p 2 (omega arith) (λ z. omega arith) gones-stepped;
+        }
+
+        pub composed : (el₄ : List ℕ) {elems : ℕ} → fault₉ s ≡ none → fault₁₀ s ≡ none → fault₁₁ s ≡ none → fault₁₂ s ≡ none → fault₂₀ s ≡ none → elems ≡ length (treeElements s) → Nexts s el₃ → Ends s el₄ → Only 4 el₃ el₄
             → Composed s t inst el₄ n elems
-        composed el₄ h₉ h₁₀ h₁₁ h₁₂ c x e p = record {
+        composed el₄ h₉ h₁₀ h₁₁ h₁₂ h₂₀ c x e p = record {
           targeted = T;
           row₉ = h₉;
           row₁₀ = h₁₀;
           row₁₁ = h₁₁;
           row₁₂ = h₁₂;
+          row₂₀ = h₂₀;
           count = c;
-          elements = rows-over s p (omega arith) rows-stepped;
-          gones = column-over s p 2 (omega arith) (λ z. omega arith) gones-stepped;
-          nexts = column-over s p 3 (omega arith) (λ z. omega arith) x;
+          elements = factors-ready el₄ x p .chains .rows;
+          gones = factors-ready el₄ x p .gones;
+          nexts = factors-ready el₄ x p .chains .nexts;
           ends = e;
         }

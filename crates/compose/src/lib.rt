@@ -63,6 +63,9 @@ fn judge_names(s: &[u8], w: usize, t: &mut [u16]) -> Refusal
     if a.number != 0 {
         return a;
     }
+    if let Found::At(p) = factor_pairs::pair_factors(s, w, t) {
+        return names::refuse(19, p);
+    }
     if let Found::At(p) = heights::find_heights(s, w, t) {
         return names::refuse(6, p);
     }
@@ -120,6 +123,9 @@ fn judge_marks(
     elements::fill_steps(s, w, t, inst, el);
     if let Found::At(p) = references::first_misreferred(s, w, t, el, elems) {
         return names::refuse(12, p);
+    }
+    if let Found::At(p) = factor_ends::first_misfactored(s, w, t, inst, el) {
+        return names::refuse(20, p);
     }
     names::refuse(0, 0)
 }

@@ -114,7 +114,7 @@ module _ {s : Recipe} {t : List ℕ} (K : ElementsRequires s t) where
   pub element-room : (x : Node) → In x (treeElements s) → x .place + 13 ≤ length t
   element-room x i = record-room (K .aimed .measured .linked .numbered .shadowed) (x .place) (element-held s x i .placed)
 
-  order-cell : (x : Node) → In x (treeElements s) → getD t (x .place + 1) 0 ≡ order s (definitionAt s (x .path)) (x .place)
+  pub order-cell : (x : Node) → In x (treeElements s) → getD t (x .place + 1) 0 ≡ order s (definitionAt s (x .path)) (x .place)
   order-cell x i =
       let h = element-held s x i in
       K .aimed .measured .linked .numbered .orders (x .place) (h .placed) (h .passes) ∙ ap (λ (d : ℕ). order s d (x .place)) (h .held)

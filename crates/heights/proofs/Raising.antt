@@ -1,6 +1,6 @@
 -- Heights that fall along submodel records: where there are some, no definition reaches itself.
 -- Assumes nothing.
-use mathlib.Core.Path.{_≡_, sym, _∙_}
+use mathlib.Core.Path.{_≡_, refl, sym, _∙_}
 use Prim.Native.Nat.{ℕ, _+_, _<_}
 use native.Mathlib.Omega.{arith}
 use mathlib.Core.Bool.{false}
@@ -19,7 +19,8 @@ use Rattle.recipe.specs.Reaching.{Reach, direct, onward, reaches}
 use Rattle.recipe.specs.Reading.{fault₆}
 use Rattle.recipe.proofs.Reaching.{reaches-plain}
 use Rattle.shadow.specs.Shadow.{Kept}
-use Rattle.shadow.specs.Columns.{Linked, Heights, Measured}
+use Rattle.shadow.specs.Columns.{Linked, Paired, Heights, Measured}
+use Rattle.shadow.proofs.Columns.{paired-over}
 use Rattle.heights.proofs.Settling.{linked-heights}
 
 module _ (s : Recipe) {t : List ℕ} (h : Heights s t) where
@@ -36,12 +37,12 @@ module _ (s : Recipe) {t : List ℕ} (h : Heights s t) where
   none-6 = first-none (λ d. reaches s d d) (definitions s) (λ d i. no-loop d)
 
 -- ---- what is promised of the heights, and of row 6
-module _ {s : Recipe} {t₀ t : List ℕ} (g : Linked s t₀) (k : Kept s (6 ∷ []) t₀ t) where
+module _ {s : Recipe} {t₀ t : List ℕ} (g : Linked s t₀) (q : Paired s t₀) (k : Kept s (6 ∷ []) t₀ t) where
   abbrev pub Judged : Found → Type 0
   Judged r = (r ≡ foundOf (fault₆ s)) × (r ≡ Nothing → Measured s t) × (length t ≡ length t₀)
 
   pub judged-heights : Heights s t → Judged Nothing
-  judged-heights h = (nothing-found (none-6 s h), λ e. record { linked = linked-heights k g; row₆ = none-6 s h; heights = h }, k .long)
+  judged-heights h = (nothing-found (none-6 s h), λ e. record { linked = linked-heights k g; paired = paired-over k refl q; row₆ = none-6 s h; heights = h }, k .long)
 
   pub judged-cycle : {r : Found} → (fault₆ s ≡ none → ⊥) → r ≡ foundOf (fault₆ s) → Judged r
   judged-cycle n e = (e, λ z. absurd (n (found-nothing (sym z ∙ e))), k .long)

@@ -12,7 +12,7 @@ ghost use Rattle.recipe.specs.Definitions.{definitions};
 ghost use Rattle.recipe.specs.Reaching.{reaches};
 ghost use Rattle.recipe.specs.Reading.{fault₆};
 ghost use Rattle.shadow.specs.Shadow.{Kept};
-ghost use Rattle.shadow.specs.Columns.{Linked, Heights, Measured};
+ghost use Rattle.shadow.specs.Columns.{Linked, Paired, Heights, Measured};
 ghost use Rattle.heights.specs.Search.{IsMarked, Marks, Marked, ModelBelow};
 ghost use Rattle.heights.specs.Heights.{higherOf, SettleFromRequires, Grows, Decides};
 use names::Found;
@@ -158,7 +158,7 @@ fn settle(s: &[u8], w: usize, t: &mut [u16]) -> bool
 
 // The lowest definition that reaches itself; where there is none, the shadow has each definition's height.
 pub fn find_heights(s: &[u8], w: usize, t: &mut [u16]) -> Found
-    requires { ⌜ Linked (recipeAt w (now s)) (now t) ⌝ }
+    requires { ⌜ Linked (recipeAt w (now s)) (now t) × Paired (recipeAt w (now s)) (now t) ⌝ }
     ensures { λ r. ⌜ (r ≡ foundOf (fault₆ (recipeAt w (now (s .entry))))) × (r ≡ Found.Nothing → Measured (recipeAt w (now (s .entry))) (now (t .exit))) × (length (now (t .exit)) ≡ length (now (t .entry))) ⌝ }
 {
     if settle(s, w, t) {

@@ -15,20 +15,21 @@ use Rattle.names.specs.Names.{isName, isNameOrBlank, isBlank, fieldAt}
 use Rattle.names.proofs.Tests.{by-cases, and-left, and-right, or-left, or-cases, not-both}
 use Rattle.names.proofs.Lists.{none-first}
 use Rattle.flat_table.specs.Classes.{isClass}
-use Rattle.recipe.specs.Records.{Recipe, ownedKind, kind, places, isReadable, isModel, isElement, isPort, isSubmodel, isDeletion, isReplacement, isReplacedBy, isMark, class, field, firstField, name, parentField, referenceField, submodelField, submodelOffset, modelField, targetField, way}
+use Rattle.recipe.specs.Records.{Recipe, ownedKind, kind, places, isReadable, isModel, isElement, isPort, isSubmodel, isDeletion, isReplacement, isReplacedBy, isMark, isFactors, class, field, firstField, name, parentField, referenceField, submodelField, submodelOffset, modelField, targetField, way, timeField, extentField}
 use Rattle.recipe.specs.Reading.{isForm, endsWithUnderscore, isWay, fault₃}
-use Rattle.recipe.specs.Fields.{targetOffset, wayOf, elementFields, portFields, submodelFields, markFields, recordOf, readingOf}
+use Rattle.recipe.specs.Fields.{targetOffset, wayOf, elementFields, portFields, submodelFields, markFields, factorsFields, recordOf, readingOf}
 use Rattle.recipe.specs.declared.Way.the-variants.{ByElement, ByPort}
 use Rattle.recipe.specs.declared.ElementFields.{ElementFields}
 use Rattle.recipe.specs.declared.PortFields.{PortFields}
 use Rattle.recipe.specs.declared.SubmodelFields.{SubmodelFields}
 use Rattle.recipe.specs.declared.Mark.{Mark}
+use Rattle.recipe.specs.declared.FactorsFields.{FactorsFields}
 use Rattle.recipe.specs.declared.Record.{Record}
-use Rattle.recipe.specs.declared.Record.the-variants.{Model, Element, Port, Submodel, Deletion, Replacement, ReplacedBy}
+use Rattle.recipe.specs.declared.Record.the-variants.{Model, Element, Port, Submodel, Deletion, Replacement, ReplacedBy, Factors}
 use Rattle.recipe.specs.declared.Read.the-variants.{As, Refused}
 use Rattle.recipe.proofs.Reading.{known, readable, readable-fits}
-use Rattle.recipe.proofs.Bodies.{by-kind, pointer-kind, element-form, port-form, submodel-form, mark-form}
-use Rattle.recipe.proofs.Fields.{at-2, at-4, target-at, refused-form}
+use Rattle.recipe.proofs.Bodies.{by-kind, pointer-kind, element-form, port-form, submodel-form, mark-form, factors-form}
+use Rattle.recipe.proofs.Fields.{at-2, at-4, at-8, target-at, refused-form}
 use Rattle.links.specs.Entries.{SoughtIn}
 use Rattle.links.proofs.Places.{place-room}
 
@@ -85,6 +86,19 @@ module _ (s : Recipe) (p : ℕ) (i : In p (places s)) where
   unfolding modelField submodelFields
   model-at k h = at-field (s .width) (ap (λ (x : SubmodelFields). x .model) h) (omega (arith, at-4 s p read k .room))
 
+  module _ (k : kind s p ≡ 8) {e : FactorsFields} (h : e ≡ factorsFields s p) where
+    pub scaled-at : FieldAt s (firstField s p) (e .submodel)
+    unfolding factorsFields
+    scaled-at = first-at (ap (λ (x : FactorsFields). x .submodel) h)
+
+    pub time-at : FieldAt s (timeField s p) (e .time)
+    unfolding timeField factorsFields
+    time-at = at-field (s .width) (ap (λ (x : FactorsFields). x .time) h) (omega (arith, at-8 s p read k .room))
+
+    pub extent-at : FieldAt s (extentField s p) (e .extent)
+    unfolding extentField factorsFields
+    extent-at = at-field (s .width + s .width) (ap (λ (x : FactorsFields). x .extent) h) (omega (arith, at-8 s p read k .room))
+
   module _ (h : isMark s p || isPort s p ≡ true) where
     room-target : p + 1 + (submodelOffset s p + s .width + 1) + s .width ≤ length (s .bytes)
     room-target = target-at s p (readable-fits s p read) (sym (pointer-kind s p) ∙ h) refl .room
@@ -122,6 +136,16 @@ module _ (s : Recipe) (p : ℕ) (i : In p (places s)) where
 
     pub model-reads : kind s p ≡ 4 → isName (modelField s p) ≡ true
     model-reads k = and-right (isName (firstField s p) && not (endsWithUnderscore (name s p))) _ (sym (submodel-form s p k) ∙ form)
+
+    module _ (k : kind s p ≡ 8) where
+      both-factors : isNameOrBlank (timeField s p) && isNameOrBlank (extentField s p) ≡ true
+      both-factors = and-right (isName (firstField s p)) _ (sym (factors-form s p k) ∙ form)
+
+      pub time-reads : isNameOrBlank (timeField s p) ≡ true
+      time-reads = and-left (isNameOrBlank (timeField s p)) _ both-factors
+
+      pub extent-reads : isNameOrBlank (extentField s p) ≡ true
+      extent-reads = and-right (isNameOrBlank (timeField s p)) _ both-factors
 
     -- a port or mark: its submodel, its way and its target
     mark-rest : isMark s p ≡ true → isName (submodelField s p) && (isWay (way s p) && isName (targetField s p)) ≡ true
@@ -164,6 +188,7 @@ module _ (s : Recipe) (p : ℕ) (i : In p (places s)) where
   ReadRight (Deletion m) = (kind s p ≡ 5) × (m ≡ markFields s p)
   ReadRight (Replacement m) = (ownedKind (kind s p) ≡ true) × (m ≡ markFields s p)
   ReadRight (ReplacedBy m) = (ownedKind (kind s p) ≡ true) × (m ≡ markFields s p)
+  ReadRight (Factors e) = (kind s p ≡ 8) × (e ≡ factorsFields s p)
 
   module _ {r : Record} (e : As r ≡ readingOf s p) where
     as-record : As r ≡ recordOf s p
@@ -177,7 +202,7 @@ module _ (s : Recipe) (p : ℕ) (i : In p (places s)) where
     right x h a = let z : r ≡ x = cc in rw z a
 
     pub read-right : ReadRight r
-    unfolding recordOf isModel isElement isPort isSubmodel isDeletion isReplacement isReplacedBy
+    unfolding recordOf isModel isElement isPort isSubmodel isDeletion isReplacement isReplacedBy isFactors
     read-right =
         by-kind (λ k. kind s p ≡ k → ReadRight r)
         (λ k. right (Model (p + 1)) (rw k at as-record) k)
@@ -187,6 +212,7 @@ module _ (s : Recipe) (p : ℕ) (i : In p (places s)) where
         (λ k. right (Deletion (markFields s p)) (rw k at as-record) (k, refl))
         (λ k. right (Replacement (markFields s p)) (rw k at as-record) (rw k, refl))
         (λ k. right (ReplacedBy (markFields s p)) (rw k at as-record) (rw k, refl))
+        (λ k. right (Factors (factorsFields s p)) (rw k at as-record) (k, refl))
         (kind s p) (known s p read) refl
 
   -- a way that reads as one

@@ -71,6 +71,7 @@ shape p d =
     (4, record { low = omega arith; tag = refl; model = refl; declared = refl; port = refl; replaced = refl })
     (4, record { low = omega arith; tag = refl; model = refl; declared = refl; port = refl; replaced = refl })
     (3, record { low = omega arith; tag = refl; model = refl; declared = refl; port = refl; replaced = refl })
+    (4, record { low = omega arith; tag = refl; model = refl; declared = refl; port = refl; replaced = refl })
 
 two-parts : (x y a b : ℕ) → a < 5 → b < 5 → eqb (8 * x + a) (8 * y + b) ≡ eqb x y && eqb a b
 two-parts x y a b h l =

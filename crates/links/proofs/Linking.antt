@@ -15,8 +15,8 @@ use Rattle.names.specs.Names.{text, isBlank, isName, isNameOrBlank, fieldAt}
 use Rattle.names.proofs.Tests.{by-cases, and-left, and-right, or-cases}
 use Rattle.names.proofs.Names.{name-not-blank}
 use Rattle.flat_table.specs.Classes.{parentAllowed}
-use Rattle.recipe.specs.Records.{Recipe, kind, ownedKind, markKind, pointerKind, submodelOffset, isModel, isElement, isPort, isSubmodel, isDeletion, isReplacement, isReplacedBy, isMark, byte, class, firstField, parentField, referenceField, submodelField, modelField, targetField, way}
-use Rattle.recipe.specs.Definitions.{main, holder, elementNamed, submodelNamed, modelOf, ownerOf, elementIn, submodelOf}
+use Rattle.recipe.specs.Records.{Recipe, kind, ownedKind, markKind, pointerKind, submodelOffset, isModel, isElement, isPort, isSubmodel, isDeletion, isReplacement, isReplacedBy, isMark, isFactors, byte, class, firstField, parentField, referenceField, submodelField, modelField, targetField, way, timeField, extentField}
+use Rattle.recipe.specs.Definitions.{main, holder, elementNamed, submodelNamed, modelOf, ownerOf, elementIn, submodelOf, scaledBy}
 use Rattle.recipe.specs.Reading.{isParent, isParentFault, isOwnPortFault, isSubmodelFieldFault, isOwnerFault, isModelFault, isPortFault, isUndeclared}
 use Rattle.recipe.specs.Fields.{portFields, markFields}
 use Rattle.recipe.specs.declared.PortFields.{PortFields}
@@ -135,28 +135,28 @@ module _ (s : Recipe) (p : ℕ) where
 -- ---- kind by kind
 module _ (s : Recipe) (p : ℕ) where
   pub model-links : kind s p ≡ 1 → links false 0 0 0 ≡ linksOf s p
-  unfolding linksOf isUndeclared upperOf lowerOf ownOf isPointing isModel isElement isPort isSubmodel isMark isDeletion isReplacement isReplacedBy
+  unfolding linksOf isUndeclared upperOf lowerOf ownOf isPointing isModel isElement isPort isSubmodel isMark isDeletion isReplacement isReplacedBy isFactors
   model-links k = rw k
 
   pub element-links : kind s p ≡ 2 → {u v : ℕ} → FieldAt s (parentField s p) u → FieldAt s (referenceField s p) v → {b : Bool} {x y : Answer} → b ≡ isParentFault s p
       → x ≡ answerOf (elementIn s p (fieldAt (s .width) (s .bytes) u)) → y ≡ answerOf (elementIn s p (fieldAt (s .width) (s .bytes) v)) → links b (x .place) (y .place) 0 ≡ linksOf s p
-  unfolding linksOf isUndeclared upperOf lowerOf ownOf isModel isElement isPort answerOf
+  unfolding linksOf isUndeclared upperOf lowerOf ownOf isModel isElement isPort answerOf isFactors
   element-links k g h eb ex ey = rw (k, eb, ex, ey, g .is, h .is)
 
   pub submodel-links : kind s p ≡ 4 → (d : ℕ) {q : ℕ} → FieldAt s (modelField s p) q → {a : Answer} → a ≡ answerOf (recordNamed s 1 d (text (fieldAt (s .width) (s .bytes) q)))
       → links (a .missing) (a .place) 0 0 ≡ linksOf s p
-  unfolding linksOf isUndeclared isModelFault upperOf lowerOf ownOf isPointing isModel isElement isPort isSubmodel isMark isDeletion isReplacement isReplacedBy modelOf main answerOf
+  unfolding linksOf isUndeclared isModelFault upperOf lowerOf ownOf isPointing isModel isElement isPort isSubmodel isMark isDeletion isReplacement isReplacedBy modelOf main answerOf isFactors
   submodel-links k d g e = rw (k, e, g .is, ← definition-look s d (text (modelField s p)))
 
   -- a port with a blank submodel
   module _ (k : kind s p ≡ 3) (b : isBlank (submodelField s p) ≡ true) where
     pub by-port-links : way s p ≡ 1 → links true 0 0 0 ≡ linksOf s p
-    unfolding linksOf isUndeclared isPortFault isOwnPortFault upperOf lowerOf ownOf isPointing isModel isElement isPort isSubmodel isMark isDeletion isReplacement isReplacedBy
+    unfolding linksOf isUndeclared isPortFault isOwnPortFault upperOf lowerOf ownOf isPointing isModel isElement isPort isSubmodel isMark isDeletion isReplacement isReplacedBy isFactors
     by-port-links w = rw (k, b, w)
 
     pub by-element-links : way s p ≡ 0 → {d q : ℕ} → d ≡ holder s p → FieldAt s (targetField s p) q → {a : Answer} → a ≡ answerOf (recordNamed s 2 d (text (fieldAt (s .width) (s .bytes) q)))
         → links (a .missing) 0 0 (a .place) ≡ linksOf s p
-    unfolding linksOf isUndeclared isPortFault isOwnPortFault upperOf lowerOf ownOf isPointing isModel isElement isPort isSubmodel isMark isDeletion isReplacement isReplacedBy answerOf
+    unfolding linksOf isUndeclared isPortFault isOwnPortFault upperOf lowerOf ownOf isPointing isModel isElement isPort isSubmodel isMark isDeletion isReplacement isReplacedBy answerOf isFactors
     by-element-links w ed g e = rw (k, b, w, e, g .is, ed, ← element-look s (holder s p) (text (targetField s p)))
 
   or-false : (b : Bool) → b ≡ b || false
@@ -169,7 +169,7 @@ module _ (s : Recipe) (p : ℕ) where
     submodel-answered = e ∙ rw (g .is, ed, ← submodel-look s (holder s p) (text (submodelField s p)))
 
     pub pointer-links : Unowned s p q → links (a .missing) 0 (a .place) 0 ≡ linksOf s p
-    unfolding linksOf isUndeclared isPortFault isSubmodelFieldFault isOwnerFault upperOf lowerOf ownOf isPointing isModel isElement isPort isSubmodel isMark isDeletion isReplacement isReplacedBy submodelOf answerOf
+    unfolding linksOf isUndeclared isPortFault isSubmodelFieldFault isOwnerFault upperOf lowerOf ownOf isPointing isModel isElement isPort isSubmodel isMark isDeletion isReplacement isReplacedBy submodelOf answerOf isFactors
     pointer-links u =
         let h = pointing-points s p (u .pointing) in
         let b = pointing-filled s p (u .pointing) in
@@ -182,7 +182,7 @@ module _ (s : Recipe) (p : ℕ) where
 
     pub owned-links : ownedKind (kind s p) ≡ true → isName (submodelField s p) ≡ true → isName (firstField s p) ≡ true → {r : ℕ} → FieldAt s (firstField s p) r → {o : Answer}
         → o ≡ answerOf (elementIn s p (fieldAt (s .width) (s .bytes) r)) → links (a .missing || o .missing) (o .place) (a .place) 0 ≡ linksOf s p
-    unfolding linksOf isUndeclared isSubmodelFieldFault isOwnerFault upperOf lowerOf ownOf isPointing isModel isElement isPort isSubmodel isMark isDeletion isReplacement isReplacedBy submodelOf ownerOf main answerOf
+    unfolding linksOf isUndeclared isSubmodelFieldFault isOwnerFault upperOf lowerOf ownOf isPointing isModel isElement isPort isSubmodel isMark isDeletion isReplacement isReplacedBy submodelOf ownerOf main answerOf isFactors
     owned-links m n f i {o} eo =
         let b = name-not-blank (submodelField s p) n in
         let t : o ≡ answerOf (elementNamed s (holder s p) (text (firstField s p))) =
@@ -191,3 +191,10 @@ module _ (s : Recipe) (p : ℕ) where
         (λ k. rw (k, b, submodel-answered, t))
         (λ k. rw (k, b, submodel-answered, t))
         (kind s p) m refl
+
+  -- a kind 8, which row 5 never refuses
+  pub factors-links : kind s p ≡ 8 → {d q u v : ℕ} → d ≡ holder s p → FieldAt s (firstField s p) q → FieldAt s (timeField s p) u → FieldAt s (extentField s p) v → {a x y : Answer}
+      → a ≡ answerOf (recordNamed s 4 d (text (fieldAt (s .width) (s .bytes) q))) → x ≡ answerOf (elementIn s p (fieldAt (s .width) (s .bytes) u))
+      → y ≡ answerOf (elementIn s p (fieldAt (s .width) (s .bytes) v)) → links false (x .place) (a .place) (y .place) ≡ linksOf s p
+  unfolding linksOf isUndeclared upperOf lowerOf ownOf isPointing isModel isElement isPort isSubmodel isMark isDeletion isReplacement isReplacedBy isFactors scaledBy answerOf
+  factors-links k ed g h i ea ex ey = rw (k, ea, ex, ey, g .is, h .is, i .is, ed, ← submodel-look s (holder s p) (text (firstField s p)))

@@ -14,8 +14,7 @@ use Rattle.names.specs.Lists.{In, first, isSome}
 use Rattle.names.specs.Names.{text, isBlank, fieldAt}
 use Rattle.names.proofs.Tests.{by-cases, or-cases, or-none-left, not-both, is-some}
 use Rattle.names.proofs.Lists.{none-first}
-use Rattle.names.specs.declared.Found.the-variants.{At, Nothing}
-use Rattle.recipe.specs.Records.{Recipe, kind, places, partOffset, submodelPart, byte, submodelOffset, isModel, isElement, isPort, isSubmodel, isDeletion, isReplacement, isReplacedBy, isMark, submodelField, targetField, way}
+use Rattle.recipe.specs.Records.{Recipe, kind, places, partOffset, submodelPart, pointerKind, byte, submodelOffset, isModel, isElement, isPort, isSubmodel, isDeletion, isReplacement, isReplacedBy, isMark, isFactors, submodelField, targetField, way}
 use Rattle.recipe.specs.Definitions.{holder, ownerOf, submodels, submodelNamed, modelOf, submodelOf, namedBy}
 use Rattle.recipe.specs.Reading.{isWay, isOwnPortFault, isSubmodelFieldFault, isOwnerFault, isPortFault, isUndeclared, fault₃, fault₄, fault₅}
 use Rattle.recipe.proofs.Bodies.{by-pointer, pointer-kind}
@@ -24,7 +23,7 @@ use Rattle.recipe.proofs.Reading.{readable, first-model}
 use Rattle.recipe.proofs.Rows.{mark-submodel}
 use Rattle.recipe.proofs.Spans.{definition-place}
 use Rattle.shadow.specs.Shadow.{Cell, Kept}
-use Rattle.shadow.specs.Columns.{Linked}
+use Rattle.shadow.specs.Columns.{Linked, Unpaired}
 use Rattle.shadow.proofs.Cells.{cell-over, RowWritten, row-none, row-set, row-left, row-room, Filling}
 use Rattle.shadow.proofs.Columns.{numbered-over}
 use Rattle.links.specs.declared.Answer.{Answer}
@@ -37,20 +36,20 @@ use Rattle.links.proofs.Fields.{FieldAt, sought, target-at-field, way-r
 use Rattle.links.proofs.Linking.{by-owned, pointing-points, pointing-filled}
 
 module _ (s : Recipe) (p : ℕ) (h : isMark s p || isPort s p ≡ true) where
-  -- a port or mark is no element
-  pub no-element : isElement s p ≡ false
-  unfolding isElement
-  no-element =
-      by-pointer (λ j. kind s p ≡ j → eqb (kind s p) 2 ≡ false) (λ k. rw k) (λ k. rw k) (λ k. rw k) (λ k. rw k)
-      (kind s p) (sym (pointer-kind s p) ∙ h) refl
+  -- it is of no other kind
+  no-kind : (j : ℕ) → pointerKind j ≡ false → eqb (kind s p) j ≡ false
+  no-kind j n =
+      by-cases (eqb (kind s p) j)
+      (λ b. not-both (sym (ap pointerKind (eqb-true (kind s p) j b)) ∙ sym (pointer-kind s p) ∙ h) n)
+      (λ b. b)
 
   pub pointing-is : isPointing s p ≡ not (isBlank (submodelField s p))
   unfolding isPointing
   pointing-is = rw h
 
   pub lower-is : lowerOf s p ≡ cond (isPointing s p) (submodelOf s p) 0
-  unfolding lowerOf
-  lower-is = rw no-element
+  unfolding lowerOf isElement isFactors
+  lower-is = rw (no-kind 2 refl, no-kind 8 refl)
 
 pub not-pointing : (s : Recipe) (p : ℕ) → isMark s p || isPort s p ≡ false → isPointing s p ≡ false
 unfolding isPointing
@@ -198,9 +197,6 @@ pub links-fault : (s : Recipe) (p : ℕ) {l : Links} {z : Bool} → l ≡ linksO
 unfolding linksOf
 links-fault s p e h = sym (ap (λ (x : Links). x .undeclared) e) ∙ h
 
-pub not-nothing : {X : Type 0} {p : ℕ} → At p ≡ Nothing → X
-not-nothing e = let y : _≡_ {A = ℕ} 0 1 = cc in absurd (omega arith)
-
 pub fault-five : (s : Recipe) {o : Option ℕ} → first (isUndeclared s) (places s) ≡ o → fault₅ s ≡ o
 unfolding fault₅
 fault-five s e = e
@@ -238,7 +234,7 @@ module _ {s : Recipe} {t₀ t : List ℕ} (h₃ : fault₃ s ≡ none) (h₄ : f
       (or-cases (isMark s r) (isPort s r) h)
 
   pub linked-end : Linked s t
-  unfolding upperOf lowerOf isElement isSubmodel isReplacement isReplacedBy
+  unfolding upperOf lowerOf ownOf isElement isSubmodel isPointing isPort isMark isDeletion isReplacement isReplacedBy isFactors
   linked-end = record {
     numbered = g .numbered;
     row₃ = h₃;
@@ -250,9 +246,16 @@ module _ {s : Recipe} {t₀ t : List ℕ} (h₃ : fault₃ s ≡ none) (h₄ : f
     references = λ e i k. g .lowers e i ∙ rw k;
     named-submodels = λ r i k b. cell-submodel g r i (pointing-is s r k ∙ rw b);
     no-submodels = λ r i k b. g .lowers r i ∙ (lower-is s r k ∙ rw (pointing-is s r k, b));
+    times = λ x i k. g .uppers x i ∙ rw (eqb-true (kind s x) 8 k);
+    scaled = λ x i k. g .lowers x i ∙ rw (eqb-true (kind s x) 8 k);
+    extents = λ x i k. f x i ∙ rw (eqb-true (kind s x) 8 k) (own x i ∙ rw (eqb-true (kind s x) 8 k));
     named-records = λ r i k.
         f r i
         ∙ by-cases (isBlank (submodelField s r))
         (λ b. rw (pointing-is s r k, b) (own r i ∙ own-named r i k b))
         (λ b. rw (pointing-is s r k, b));
   }
+
+  pub unpaired-end : Unpaired s t
+  unfolding ownOf isSubmodel isPointing isPort isMark isDeletion isReplacement isReplacedBy isFactors
+  unpaired-end m i k = f m i ∙ rw (eqb-true (kind s m) 4 k) (own m i ∙ rw (eqb-true (kind s m) 4 k))

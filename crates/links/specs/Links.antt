@@ -9,8 +9,8 @@ use lib.Dec.{eqb}
 use Rattle.names.specs.Lists.{In}
 use Rattle.names.specs.Names.{text, isBlank}
 use Rattle.names.specs.Judging.{Row, row}
-use Rattle.recipe.specs.Records.{Recipe, places, isElement, isPort, isSubmodel, isOwned, isPointer, parentField, referenceField, submodelOffset, submodelField, way, targetField}
-use Rattle.recipe.specs.Definitions.{holder, elementNamed, modelOf, ownerOf, elementIn, submodelOf}
+use Rattle.recipe.specs.Records.{Recipe, places, isElement, isPort, isSubmodel, isFactors, isOwned, isPointer, parentField, referenceField, submodelOffset, submodelField, way, targetField, timeField, extentField}
+use Rattle.recipe.specs.Definitions.{holder, elementNamed, modelOf, ownerOf, elementIn, submodelOf, scaledBy}
 use Rattle.recipe.specs.Reading.{isUndeclared, fault₄, fault₅}
 use Rattle.shadow.specs.Shadow.{Cell}
 use Rattle.shadow.specs.Columns.{Numbered}
@@ -38,23 +38,26 @@ pub record Unowned (s : Recipe) (p q : ℕ) : Type 0 where
   pub unowned : isOwned s p ≡ false
   pub begins : q ≡ p + 1 + submodelOffset s p
 
--- cell 3: an element's parent, a mark's owner, a submodel's model
+-- cell 3: an element's parent, a mark's owner, a submodel's model, a time factor
 unfoldable pub upperOf : Recipe → ℕ → ℕ
 upperOf s p =
     cond (isElement s p) (Option·getD (elementIn s p (parentField s p)) 0)
     (cond (isOwned s p) (ownerOf s p)
-    (cond (isSubmodel s p) (modelOf s p) 0))
+    (cond (isSubmodel s p) (modelOf s p)
+    (cond (isFactors s p) (Option·getD (elementIn s p (timeField s p)) 0) 0)))
 
--- cell 4: an element's reference, the submodel of a port or mark, 0 of a blank
+-- cell 4: an element's reference, the submodel of a port or mark, 0 of a blank; the submodel of a kind 8
 unfoldable pub lowerOf : Recipe → ℕ → ℕ
 lowerOf s p =
     cond (isElement s p) (Option·getD (elementIn s p (referenceField s p)) 0)
-    (cond (isPointing s p) (submodelOf s p) 0)
+    (cond (isPointing s p) (submodelOf s p)
+    (cond (isFactors s p) (Option·getD (scaledBy s p) 0) 0))
 
--- cell 5, of a port with a blank submodel: the element that it names
+-- cell 5: of a port with a blank submodel the element that it names; an extent factor
 unfoldable pub ownOf : Recipe → ℕ → ℕ
 ownOf s p =
-    cond (isPort s p && isBlank (submodelField s p) && eqb (way s p) 0) (Option·getD (elementNamed s (holder s p) (text (targetField s p))) 0) 0
+    cond (isPort s p && isBlank (submodelField s p) && eqb (way s p) 0) (Option·getD (elementNamed s (holder s p) (text (targetField s p))) 0)
+    (cond (isFactors s p) (Option·getD (elementIn s p (extentField s p)) 0) 0)
 
 -- what a record names, cell by cell
 abbrev pub links : Bool → ℕ → ℕ → ℕ → Links

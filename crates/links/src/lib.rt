@@ -13,15 +13,16 @@ ghost use Rattle.names.specs.declared.Found.the-variants.{Nothing};
 ghost use Rattle.recipe.specs.Records.{recipeAt, places, ownedKind, kind, submodelField};
 ghost use Rattle.recipe.specs.Definitions.{elementIn, namedBy};
 ghost use Rattle.recipe.specs.Reading.{fault₃, fault₄, isParentFault, fault₅};
-ghost use Rattle.recipe.specs.Fields.{elementFields, portFields, submodelFields, markFields};
+ghost use Rattle.recipe.specs.Fields.{elementFields, portFields, submodelFields, markFields, factorsFields};
 ghost use Rattle.shadow.specs.Shadow.{Cell};
-ghost use Rattle.shadow.specs.Columns.{Numbered, Linked};
+ghost use Rattle.shadow.specs.Columns.{Numbered, Linked, Unpaired};
 ghost use Rattle.links.specs.Entries.{tagOf, keyOf, keyAt, Entered, RecordIndex, IndexRequires, recordNamed, SoughtIn, answerOf};
 ghost use Rattle.links.specs.Links.{declaredRows, RecordRequires, Unowned, isPointing, linksOf, ownOf, Pointed};
 use name_index::Layout;
 use names::Found;
 use names::Refusal;
 use recipe::ElementFields;
+use recipe::FactorsFields;
 use recipe::Mark;
 use recipe::PortFields;
 use recipe::Read;
@@ -425,6 +426,36 @@ fn link_owned(
     }
 }
 
+// A kind 8: its two factors and its submodel. Row 5 never refuses it.
+fn link_factors(
+    s: &[u8],
+    w: usize,
+    at: &[u16],
+    fields: &[u8],
+    keys: &[u32],
+    index: &[u16],
+    h: Held,
+    e: FactorsFields,
+) -> Links
+    requires { ⌜ RecordRequires (recipeAt w (now s)) (now at) (now fields) (now keys) (now index) h × ((kind (recipeAt w (now s)) (h .place) ≡ 8) × (e ≡ factorsFields (recipeAt w (now s)) (h .place))) ⌝ }
+    ensures { λ r. ⌜ r ≡ linksOf (recipeAt w (now (s .entry))) (h .place) ⌝ }
+{
+    let time = find_element(s, w, at, fields, keys, index, h, e.time);
+    let extent = find_element(s, w, at, fields, keys, index, h, e.extent);
+    let sought = Sought {
+        kind: 4,
+        definition: h.definition,
+        name: e.submodel,
+    };
+    let submodel = find_record(s, w, at, fields, keys, index, sought);
+    Links {
+        undeclared: false,
+        upper: time.place,
+        lower: submodel.place,
+        own: extent.place,
+    }
+}
+
 // Looks up what a record names.
 fn link_record(
     s: &[u8],
@@ -455,6 +486,7 @@ fn link_record(
         Record::Deletion(m) => link_pointer(s, w, at, fields, keys, index, h, m.submodel),
         Record::Replacement(m) => link_owned(s, w, at, fields, keys, index, h, m),
         Record::ReplacedBy(m) => link_owned(s, w, at, fields, keys, index, h, m),
+        Record::Factors(e) => link_factors(s, w, at, fields, keys, index, h, e),
     }
 }
 
@@ -532,7 +564,7 @@ fn name_targets(
     t: &mut [u16],
 )
     requires { ⌜ IndexRequires (recipeAt w (now s)) (now at) (now fields) (now keys) (now index) × (Pointed (recipeAt w (now s)) (now t) × Cell (places (recipeAt w (now s))) 5 (ownOf (recipeAt w (now s))) (now t)) ⌝ }
-    ensures { λ _. ⌜ Linked (recipeAt w (now (s .entry))) (now (t .exit)) ⌝ }
+    ensures { λ _. ⌜ Linked (recipeAt w (now (s .entry))) (now (t .exit)) × Unpaired (recipeAt w (now (s .entry))) (now (t .exit)) ⌝ }
 {
     let mut p = 0;
     while p < s.len() {
@@ -552,7 +584,7 @@ fn judge_names(
     t: &mut [u16],
 ) -> Refusal
     requires { ⌜ RecordIndex (recipeAt w (now s)) (now at) (now fields) (now keys) (now index) × Numbered (recipeAt w (now s)) (now t) ⌝ }
-    ensures { λ r. ⌜ (r ≡ handed (judged (declaredRows (recipeAt w (now (s .entry)))))) × (r .number ≡ 0 → Linked (recipeAt w (now (s .entry))) (now (t .exit))) ⌝ }
+    ensures { λ r. ⌜ (r ≡ handed (judged (declaredRows (recipeAt w (now (s .entry)))))) × (r .number ≡ 0 → Linked (recipeAt w (now (s .entry))) (now (t .exit)) × Unpaired (recipeAt w (now (s .entry))) (now (t .exit))) ⌝ }
 {
     if let Found::At(p) = first_repeated(s, w, at, fields, keys, index) {
         return names::refuse(4, p);
@@ -567,7 +599,7 @@ fn judge_names(
 // Rows 4 and 5; where neither applies, the cells 3 to 5.
 pub fn resolve_names(s: &[u8], w: usize, t: &mut [u16]) -> Refusal
     requires { ⌜ Numbered (recipeAt w (now s)) (now t) × (fault₃ (recipeAt w (now s)) ≡ none) ⌝ }
-    ensures { λ r. ⌜ (r ≡ handed (judged (declaredRows (recipeAt w (now (s .entry)))))) × ((r .number ≡ 0 → Linked (recipeAt w (now (s .entry))) (now (t .exit))) × (length (now (t .exit)) ≡ length (now (t .entry)))) ⌝ }
+    ensures { λ r. ⌜ (r ≡ handed (judged (declaredRows (recipeAt w (now (s .entry)))))) × ((r .number ≡ 0 → Linked (recipeAt w (now (s .entry))) (now (t .exit)) × Unpaired (recipeAt w (now (s .entry))) (now (t .exit))) × (length (now (t .exit)) ≡ length (now (t .entry)))) ⌝ }
 {
     let mut at = [0u16; MOST_RECORDS];
     let mut fields = [0u8; MOST_BYTES];

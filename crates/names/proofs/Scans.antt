@@ -108,6 +108,9 @@ pub at-found : {p : ℕ} {o : Option ℕ} → o ≡ some p → At p ≡ foundOf 
 unfolding foundOf
 at-found {p} {o} e = rw e
 
+pub not-nothing : {X : Type 0} {p : ℕ} → At p ≡ Nothing → X
+not-nothing e = let y : _≡_ {A = ℕ} 0 1 = cc in absurd (omega arith)
+
 pub nothing-found : {o : Option ℕ} → o ≡ none → Nothing ≡ foundOf o
 unfolding foundOf
 nothing-found {o} e = rw e

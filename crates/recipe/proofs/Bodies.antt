@@ -10,22 +10,23 @@ use borrow.Author.Tests.{eqb-true, eqb-false, lt-leb}
 use Rattle.names.specs.Names.{isName, isNameOrBlank, text}
 use Rattle.names.proofs.Tests.{or-cases, and-left}
 use Rattle.flat_table.specs.Classes.{isClass}
-use Rattle.recipe.specs.Records.{Recipe, partOffset, submodelPart, isKnown, recordLength, deletionKind, ownedKind, markKind, pointerKind, kind, isDeletion, isReplacement, isReplacedBy, isMark, isPort, field, byte, firstField, name, class, parentField, referenceField, modelField, submodelOffset, submodelField, way, targetField}
+use Rattle.recipe.specs.Records.{Recipe, partOffset, submodelPart, isKnown, recordLength, deletionKind, ownedKind, markKind, pointerKind, kind, isDeletion, isReplacement, isReplacedBy, isMark, isPort, field, byte, firstField, name, class, parentField, referenceField, modelField, submodelOffset, submodelField, way, targetField, timeField, extentField}
 use Rattle.recipe.specs.Reading.{endsWithUnderscore, isWay, reads, readsBehind, isForm}
 
 -- ---- which kinds there are
 -- what holds of each kind of the table holds of every known kind
-pub by-kind : (P : ℕ → Type 0) → P 1 → P 2 → P 3 → P 4 → P 5 → P 6 → P 7 → (k : ℕ) → isKnown k ≡ true → P k
+pub by-kind : (P : ℕ → Type 0) → P 1 → P 2 → P 3 → P 4 → P 5 → P 6 → P 7 → P 8 → (k : ℕ) → isKnown k ≡ true → P k
 unfolding isKnown
-by-kind P p₁ p₂ p₃ p₄ p₅ p₆ p₇ zero h = absurd (false≢true h)
-by-kind P p₁ p₂ p₃ p₄ p₅ p₆ p₇ (suc zero) h = p₁
-by-kind P p₁ p₂ p₃ p₄ p₅ p₆ p₇ (suc (suc zero)) h = p₂
-by-kind P p₁ p₂ p₃ p₄ p₅ p₆ p₇ (suc (suc (suc zero))) h = p₃
-by-kind P p₁ p₂ p₃ p₄ p₅ p₆ p₇ (suc (suc (suc (suc zero)))) h = p₄
-by-kind P p₁ p₂ p₃ p₄ p₅ p₆ p₇ (suc (suc (suc (suc (suc zero))))) h = p₅
-by-kind P p₁ p₂ p₃ p₄ p₅ p₆ p₇ (suc (suc (suc (suc (suc (suc zero)))))) h = p₆
-by-kind P p₁ p₂ p₃ p₄ p₅ p₆ p₇ (suc (suc (suc (suc (suc (suc (suc zero))))))) h = p₇
-by-kind P p₁ p₂ p₃ p₄ p₅ p₆ p₇ (suc (suc (suc (suc (suc (suc (suc (suc k)))))))) h = absurd (false≢true h)
+by-kind P p₁ p₂ p₃ p₄ p₅ p₆ p₇ p₈ zero h = absurd (false≢true h)
+by-kind P p₁ p₂ p₃ p₄ p₅ p₆ p₇ p₈ (suc zero) h = p₁
+by-kind P p₁ p₂ p₃ p₄ p₅ p₆ p₇ p₈ (suc (suc zero)) h = p₂
+by-kind P p₁ p₂ p₃ p₄ p₅ p₆ p₇ p₈ (suc (suc (suc zero))) h = p₃
+by-kind P p₁ p₂ p₃ p₄ p₅ p₆ p₇ p₈ (suc (suc (suc (suc zero)))) h = p₄
+by-kind P p₁ p₂ p₃ p₄ p₅ p₆ p₇ p₈ (suc (suc (suc (suc (suc zero))))) h = p₅
+by-kind P p₁ p₂ p₃ p₄ p₅ p₆ p₇ p₈ (suc (suc (suc (suc (suc (suc zero)))))) h = p₆
+by-kind P p₁ p₂ p₃ p₄ p₅ p₆ p₇ p₈ (suc (suc (suc (suc (suc (suc (suc zero))))))) h = p₇
+by-kind P p₁ p₂ p₃ p₄ p₅ p₆ p₇ p₈ (suc (suc (suc (suc (suc (suc (suc (suc zero)))))))) h = p₈
+by-kind P p₁ p₂ p₃ p₄ p₅ p₆ p₇ p₈ (suc (suc (suc (suc (suc (suc (suc (suc (suc k))))))))) h = absurd (false≢true h)
 
 -- they are 1 to 7
 pub known-range : (k : ℕ) → leb 1 k && leb k 7 ≡ isKnown k
@@ -38,8 +39,9 @@ known-range (suc (suc (suc (suc zero)))) = refl
 known-range (suc (suc (suc (suc (suc zero))))) = refl
 known-range (suc (suc (suc (suc (suc (suc zero)))))) = refl
 known-range (suc (suc (suc (suc (suc (suc (suc zero))))))) = refl
-known-range (suc (suc (suc (suc (suc (suc (suc (suc k)))))))) =
-    rw (lt-leb (suc (suc (suc (suc (suc (suc (suc (suc k)))))))) 7 (omega arith)) (and-false (leb 1 (suc (suc (suc (suc (suc (suc (suc (suc k))))))))))
+known-range (suc (suc (suc (suc (suc (suc (suc (suc zero)))))))) = refl
+known-range (suc (suc (suc (suc (suc (suc (suc (suc (suc k))))))))) =
+    rw (lt-leb (suc (suc (suc (suc (suc (suc (suc (suc (suc k))))))))) 7 (omega arith)) (and-false (leb 1 (suc (suc (suc (suc (suc (suc (suc (suc (suc k)))))))))))
 
 -- what holds of 5, 6 and 7 holds of every mark's kind
 pub by-mark : (P : ℕ → Type 0) → P 5 → P 6 → P 7 → (k : ℕ) → markKind k ≡ true → P k
@@ -69,7 +71,7 @@ offset-behind w k h d =
 pub kind-least : (w k : ℕ) → isKnown k ≡ true → w + 1 ≤ recordLength w k
 unfolding recordLength
 kind-least w =
-    by-kind (λ k. w + 1 ≤ recordLength w k) (omega arith) (omega arith) (omega arith) (omega arith) (omega arith) (omega arith) (omega arith)
+    by-kind (λ k. w + 1 ≤ recordLength w k) (omega arith) (omega arith) (omega arith) (omega arith) (omega arith) (omega arith) (omega arith) (omega arith)
 
 -- ---- how the body of each kind reads
 module _ (s : Recipe) (p : ℕ) where
@@ -135,6 +137,14 @@ module _ (s : Recipe) (p : ℕ) where
       (λ k. rw k (ap (λ (b : Bool). isName (field s p 0) && (isName (field s p (s .width)) && b)) (behind refl (omega arith))))
       (kind s p) (sym mark-kind ∙ h) refl
 
+  -- kind 8: "submodel, time factor or blank, extent factor or blank"
+  pub factors-form : kind s p ≡ 8
+      → isForm s p ≡ isName (firstField s p) && (isNameOrBlank (timeField s p) && isNameOrBlank (extentField s p))
+  unfolding isForm readsBehind reads firstField timeField extentField
+  factors-form k =
+      rw k
+      (ap (λ (b : Bool). isName (field s p 0) && (isNameOrBlank (field s p (s .width)) && b)) (and-true (isNameOrBlank (field s p (s .width + s .width)))))
+
   -- the first field of each kind is a name
   pub first-reads : isKnown (kind s p) ≡ true → isForm s p ≡ true → isName (firstField s p) ≡ true
   first-reads h f =
@@ -146,4 +156,5 @@ module _ (s : Recipe) (p : ℕ) where
       (λ k. and-left (isName (firstField s p)) _ (sym (mark-form (mark-kind ∙ ap markKind k)) ∙ f))
       (λ k. and-left (isName (firstField s p)) _ (sym (mark-form (mark-kind ∙ ap markKind k)) ∙ f))
       (λ k. and-left (isName (firstField s p)) _ (sym (mark-form (mark-kind ∙ ap markKind k)) ∙ f))
+      (λ k. and-left (isName (firstField s p)) _ (sym (factors-form k) ∙ f))
       (kind s p) h refl

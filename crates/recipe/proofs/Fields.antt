@@ -15,18 +15,18 @@ use Rattle.names.proofs.Tests.{by-cases, or-left}
 use Rattle.names.proofs.Lists.{while-length, take-while}
 use Rattle.names.proofs.Names.{is-name, some-character, name-characters}
 use Rattle.flat_table.specs.Classes.{isClass}
-use Rattle.recipe.specs.Records.{Recipe, places, partOffset, submodelPart, portKind, markKind, pointerKind, deletionKind, replacedByKind, isMark, isReplacedBy, recordLength, kind, next, isReadable, isModel, isElement, isPort, isSubmodel, isDeletion, isReplacement, field, byte, firstField, name, class, parentField, referenceField, modelField, submodelOffset, submodelField, way, targetField}
+use Rattle.recipe.specs.Records.{Recipe, places, partOffset, submodelPart, portKind, markKind, pointerKind, deletionKind, replacedByKind, isMark, isReplacedBy, recordLength, kind, next, isReadable, isModel, isElement, isPort, isSubmodel, isDeletion, isReplacement, isFactors, field, byte, firstField, name, class, parentField, referenceField, modelField, submodelOffset, submodelField, way, targetField, timeField, extentField}
 use Rattle.recipe.specs.Reading.{endsWithUnderscore, isWay, isForm, fault₃}
-use Rattle.recipe.specs.Fields.{wayOf, targetReading, elementFields, portFields, submodelFields, markFields, markReading, recordOf, readingOf, RecordAt, TargetAt, MarkAt}
+use Rattle.recipe.specs.Fields.{wayOf, targetReading, elementFields, portFields, submodelFields, markFields, markReading, factorsFields, recordOf, readingOf, RecordAt, TargetAt, MarkAt}
 use Rattle.recipe.specs.declared.Way.{Way}
 use Rattle.recipe.specs.declared.Way.the-variants.{ByElement, ByPort}
 use Rattle.recipe.specs.declared.Target.the-variants.{Named, Unnamed}
 use Rattle.recipe.specs.declared.Mark.{Mark}
 use Rattle.recipe.specs.declared.Marked.the-variants.{Marks, Unmarked}
 use Rattle.recipe.specs.declared.Record.{Record}
-use Rattle.recipe.specs.declared.Record.the-variants.{Model, Element, Port, Submodel, Deletion, Replacement, ReplacedBy}
+use Rattle.recipe.specs.declared.Record.the-variants.{Model, Element, Port, Submodel, Deletion, Replacement, ReplacedBy, Factors}
 use Rattle.recipe.specs.declared.Read.the-variants.{As, Refused}
-use Rattle.recipe.proofs.Bodies.{by-kind, by-mark, by-pointer, model-form, element-form, port-form, submodel-form, mark-form, mark-kind}
+use Rattle.recipe.proofs.Bodies.{by-kind, by-mark, by-pointer, model-form, element-form, port-form, submodel-form, mark-form, factors-form, mark-kind}
 use Rattle.recipe.proofs.Reading.{readable-fits, known, next-more}
 
 -- ---- the last character of a name
@@ -100,14 +100,18 @@ module _ (s : Recipe) (p : ℕ) where
     unfolding next recordLength
     at-4 k = record { kinded = k; room = let h : p + (1 + (s .width + s .width)) ≤ length (s .bytes) = rw k at fits in omega arith }
 
+    pub at-8 : kind s p ≡ 8 → RecordAt s p 8 (1 + 3 * s .width)
+    unfolding next recordLength
+    at-8 k = record { kinded = k; room = let h : p + (1 + (s .width + (s .width + s .width))) ≤ length (s .bytes) = rw k at fits in omega arith }
+
     pub mark-at : {k : ℕ} → kind s p ≡ k → markKind k ≡ true → MarkAt s p k
     mark-at e m = record { kinded = e; marks = m; room = fits }
 
-    -- a record of kind 1 to 4 or a mark: there is no other
-    pub no-other : (kind s p ≡ 1 → ⊥) → (kind s p ≡ 2 → ⊥) → (kind s p ≡ 3 → ⊥) → (kind s p ≡ 4 → ⊥) → markKind (kind s p) ≡ false → ⊥
+    -- a record of kind 1 to 4, of kind 8 or a mark: there is no other
+    pub no-other : (kind s p ≡ 1 → ⊥) → (kind s p ≡ 2 → ⊥) → (kind s p ≡ 3 → ⊥) → (kind s p ≡ 4 → ⊥) → (kind s p ≡ 8 → ⊥) → markKind (kind s p) ≡ false → ⊥
     unfolding isReadable
-    no-other n₁ n₂ n₃ n₄ m =
-        by-kind (λ k. kind s p ≡ k → ⊥) n₁ n₂ n₃ n₄ (λ k. true≢false (rw k at m)) (λ k. true≢false (rw k at m)) (λ k. true≢false (rw k at m))
+    no-other n₁ n₂ n₃ n₄ n₈ m =
+        by-kind (λ k. kind s p ≡ k → ⊥) n₁ n₂ n₃ n₄ (λ k. true≢false (rw k at m)) (λ k. true≢false (rw k at m)) (λ k. true≢false (rw k at m)) n₈
         (kind s p) (known s p e) refl
 
   -- ---- marks
@@ -310,6 +314,31 @@ module _ (s : Recipe) (p : ℕ) where
         unfolding submodelFields
         submodel-read b = sym (submodel-reading ∙ rw (submodel-model ∙ b))
 
+  -- 8
+  module _ (k : kind s p ≡ 8) where
+    factors-reading : readingOf s p ≡ cond (isForm s p) (As (Factors (factorsFields s p))) Refused
+    unfolding readingOf recordOf isModel isElement isPort isSubmodel isDeletion isReplacement isReplacedBy isFactors
+    factors-reading = rw k
+
+    pub factors-nameless : isName (field s p 0) ≡ false → Refused ≡ readingOf s p
+    unfolding firstField
+    factors-nameless a = sym (factors-reading ∙ rw (factors-form s p k, a))
+
+    module _ (a : isName (field s p 0) ≡ true) where
+      pub factors-time : isNameOrBlank (field s p (s .width)) ≡ false → Refused ≡ readingOf s p
+      unfolding firstField timeField
+      factors-time b = sym (factors-reading ∙ rw (factors-form s p k, a, b))
+
+      module _ (b : isNameOrBlank (field s p (s .width)) ≡ true) where
+        pub factors-extent : isNameOrBlank (field s p (s .width + s .width)) ≡ false → Refused ≡ readingOf s p
+        unfolding firstField timeField extentField
+        factors-extent c = sym (factors-reading ∙ rw (factors-form s p k, a, b, c))
+
+        pub factors-read : isNameOrBlank (field s p (s .width + s .width)) ≡ true
+            → As (Factors (record { submodel = p + 1; time = p + 1 + s .width; extent = p + 1 + (s .width + s .width) })) ≡ readingOf s p
+        unfolding firstField timeField extentField factorsFields
+        factors-read c = sym (factors-reading ∙ rw (factors-form s p k, a, b, c))
+
   -- 5 to 7
   module _ (m : isMark s p ≡ true) where
     pub mark-nameless : isName (field s p 0) ≡ false → Unmarked ≡ markReading s p
@@ -345,11 +374,12 @@ module _ (s : Recipe) (p : ℕ) where
 
   -- a record that row 2 does not refuse has one of the kinds
   record-known : isReadable s p ≡ true → (r : Record) × (recordOf s p ≡ As r)
-  unfolding isReadable recordOf isModel isElement isPort isSubmodel isDeletion isReplacement isReplacedBy
+  unfolding isReadable recordOf isModel isElement isPort isSubmodel isDeletion isReplacement isReplacedBy isFactors
   record-known e =
       by-kind (λ k. kind s p ≡ k → (r : Record) × (recordOf s p ≡ As r))
       (λ k. (Model (p + 1), rw k)) (λ k. (Element (elementFields s p), rw k)) (λ k. (Port (portFields s p), rw k)) (λ k. (Submodel (submodelFields s p), rw k))
       (λ k. (Deletion (markFields s p), rw k)) (λ k. (Replacement (markFields s p), rw k)) (λ k. (ReplacedBy (markFields s p), rw k))
+      (λ k. (Factors (factorsFields s p), rw k))
       (kind s p) (known s p e) refl
 
   pub refused-form : isReadable s p ≡ true → Refused ≡ readingOf s p → not (isForm s p) ≡ true

@@ -19,7 +19,11 @@ pub length-deletion : (w : ℕ) {k : ℕ} → k ≡ 5 → 2 + 2 * w ≡ recordLe
 unfolding recordLength
 length-deletion w e = rw e (omega arith)
 
--- the kinds with three name fields: 2, 3, 6 and 7
+pub length-factors : (w : ℕ) {k : ℕ} → k ≡ 8 → 1 + 3 * w ≡ recordLength w k
+unfolding recordLength
+length-factors w e = rw e (omega arith)
+
+-- the kinds with three name fields and a byte: 2, 3, 6 and 7
 pub length-three : (w k : ℕ) → 1 ≤ k → k < 8 → (k ≡ 1 → ⊥) → (k ≡ 4 → ⊥) → (k ≡ 5 → ⊥) → 2 + 3 * w ≡ recordLength w k
 unfolding recordLength
 length-three w zero a b p q r = absurd (omega arith)
@@ -37,6 +41,6 @@ unfolding recordLength
 length-none w zero h = omega arith
 length-none w (suc k) h = absurd (omega arith)
 
-pub length-past : (w k : ℕ) → 8 ≤ k → 1 ≡ recordLength w k
+pub length-past : (w k : ℕ) → 9 ≤ k → 1 ≡ recordLength w k
 unfolding recordLength
 length-past w k h = rw (List·getD-eq-default bodies [] h)

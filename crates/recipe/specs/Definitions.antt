@@ -7,7 +7,7 @@ use mathlib.Core.List.{List}
 use lib.Dec.{leb, eqb}
 use Rattle.names.specs.Lists.{keep, first, lastOr, same}
 use Rattle.names.specs.Names.{text, isBlank}
-use Rattle.recipe.specs.Records.{Recipe, places, isModel, isElement, isPort, isSubmodel, name, modelField, firstField, submodelField, way, targetField}
+use Rattle.recipe.specs.Records.{Recipe, places, isModel, isElement, isPort, isSubmodel, isFactors, name, modelField, firstField, submodelField, way, targetField}
 
 -- "The first definition is main"
 unfoldable pub main : ℕ
@@ -69,7 +69,7 @@ modelOf s m = Option·getD (definitionNamed s (text (modelField s m))) main
 unfoldable pub ownerOf : Recipe → ℕ → ℕ
 ownerOf s r = Option·getD (elementNamed s (holder s r) (text (firstField s r))) main
 
--- the element that a parent or reference field f of the element e names, if it is filled
+-- the element that a parent or reference field f of the element e, or a factor field f of the kind 8 e, names, if it is filled
 unfoldable pub elementIn : Recipe → ℕ → List ℕ → Option ℕ
 elementIn s e f = elim (isBlank f) [ true ↦ none | false ↦ elementNamed s (holder s e) (text f) ]
 
@@ -85,3 +85,15 @@ namedBy s r =
     (cond (eqb (way s r) 0)
     (elementNamed s (modelOf s (submodelOf s r)) (text (targetField s r)))
     (portNamed s (modelOf s (submodelOf s r)) (text (targetField s r))))
+
+-- Paper 2: the submodel that the kind 8 at f names, if its definition has it
+unfoldable pub scaledBy : Recipe → ℕ → Option ℕ
+scaledBy s f = submodelNamed s (holder s f) (text (firstField s f))
+
+-- the record at f is a kind 8 of the definition of the submodel m, and names it
+unfoldable pub scales : Recipe → ℕ → ℕ → Bool
+scales s m f = isFactors s f && eqb (holder s f) (holder s m) && same (text (firstField s f)) (name s m)
+
+-- the kind 8 that gives the submodel m its factors, if there is one
+unfoldable pub factorsOf : Recipe → ℕ → Option ℕ
+factorsOf s m = first (scales s m) (places s)

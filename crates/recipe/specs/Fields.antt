@@ -6,7 +6,7 @@ use mathlib.Core.Bool.{true, cond, _&&_}
 use lib.ListN.{length}
 use lib.Dec.{eqb}
 use Rattle.names.specs.Names.{isName}
-use Rattle.recipe.specs.Records.{Recipe, partOffset, kind, isModel, isElement, isPort, isSubmodel, isDeletion, isReplacement, isReplacedBy, markKind, next, class, submodelOffset, way, targetField}
+use Rattle.recipe.specs.Records.{Recipe, partOffset, kind, isModel, isElement, isPort, isSubmodel, isDeletion, isReplacement, isReplacedBy, isFactors, markKind, next, class, submodelOffset, way, targetField}
 use Rattle.recipe.specs.Reading.{isWay, isForm}
 use Rattle.recipe.specs.declared.Way.{Way}
 use Rattle.recipe.specs.declared.Way.the-variants.{ByElement, ByPort}
@@ -18,7 +18,8 @@ use Rattle.recipe.specs.declared.SubmodelFields.{SubmodelFields}
 use Rattle.recipe.specs.declared.Mark.{Mark}
 use Rattle.recipe.specs.declared.Marked.{Marked}
 use Rattle.recipe.specs.declared.Marked.the-variants.{Marks, Unmarked}
-use Rattle.recipe.specs.declared.Record.the-variants.{Model, Element, Port, Submodel, Deletion, Replacement, ReplacedBy}
+use Rattle.recipe.specs.declared.FactorsFields.{FactorsFields}
+use Rattle.recipe.specs.declared.Record.the-variants.{Model, Element, Port, Submodel, Deletion, Replacement, ReplacedBy, Factors}
 use Rattle.recipe.specs.declared.Read.{Read}
 use Rattle.recipe.specs.declared.Read.the-variants.{As, Refused}
 
@@ -59,6 +60,10 @@ markFields s p = record { owner = p + 1; submodel = offset p (submodelOffset s p
 unfoldable pub markReading : Recipe → ℕ → Marked
 markReading s p = cond (isForm s p) (Marks (markFields s p)) Unmarked
 
+-- kind 8: "submodel, time factor or blank, extent factor or blank"
+unfoldable pub factorsFields : Recipe → ℕ → FactorsFields
+factorsFields s p = record { submodel = p + 1; time = offset p (partOffset (s .width) 8 1); extent = offset p (partOffset (s .width) 8 2) }
+
 -- the record at p, by its kind
 unfoldable pub recordOf : Recipe → ℕ → Read
 recordOf s p =
@@ -69,7 +74,8 @@ recordOf s p =
     (cond (isDeletion s p) (As (Deletion (markFields s p)))
     (cond (isReplacement s p) (As (Replacement (markFields s p)))
     (cond (isReplacedBy s p) (As (ReplacedBy (markFields s p)))
-    Refused))))))
+    (cond (isFactors s p) (As (Factors (factorsFields s p)))
+    Refused)))))))
 
 -- what the record at p reads as; refused, by row 3, where a field of it does not read
 unfoldable pub readingOf : Recipe → ℕ → Read

@@ -1,4 +1,4 @@
--- 01's "Verdicts", rows 1 to 6, that judge a recipe without its tree: of each row the lowest place where it applies, if any.
+-- 01's "Verdicts", rows 1 to 6, and Paper 2's row 19, that judge a recipe without its tree: of each row the lowest place where it applies, if any.
 -- Assumes nothing.
 use Prim.Native.Nat.{ℕ}
 use mathlib.Core.Bool.{Bool, true, false, cond, not, _&&_, _||_}
@@ -10,8 +10,8 @@ use Rattle.names.specs.Lists.{any, first, isSome, holds, lastOr, same}
 use Rattle.names.specs.Names.{underscore, text, isName, isNameOrBlank, isBlank}
 use Rattle.names.specs.Judging.{Row, row}
 use Rattle.flat_table.specs.Classes.{isClass, parentAllowed}
-use Rattle.recipe.specs.Records.{Recipe, Part, aName, aSubmodelName, aNameOrBlank, aClass, aWay, bodyOf, bytesOf, kind, isModel, isElement, isPort, isSubmodel, isReplacedBy, isOwned, isMark, places, stop, field, byte, firstField, name, class, parentField, modelField, submodelField, way, targetField}
-use Rattle.recipe.specs.Definitions.{definitions, holder, isDeclared, elementNamed, submodelNamed, definitionNamed, elementIn}
+use Rattle.recipe.specs.Records.{Recipe, Part, aName, aSubmodelName, aNameOrBlank, aClass, aWay, bodyOf, bytesOf, kind, isModel, isElement, isPort, isSubmodel, isReplacedBy, isOwned, isMark, isFactors, places, stop, field, byte, firstField, name, class, parentField, modelField, submodelField, way, targetField}
+use Rattle.recipe.specs.Definitions.{definitions, holder, isDeclared, elementNamed, submodelNamed, definitionNamed, elementIn, scaledBy}
 use Rattle.recipe.specs.Reaching.{reaches}
 
 -- column "Place", 0: there if the test passes
@@ -119,6 +119,18 @@ isUndeclared s p =
 unfoldable pub fault₅ : Recipe → Option ℕ
 fault₅ s = first (isUndeclared s) (places s)
 
+-- Paper 2, row 19: "given factors twice": the kind 8 at q is earlier than that at p, of the same definition, and names the same submodel
+unfoldable pub gaveFactors : Recipe → ℕ → ℕ → Bool
+gaveFactors s p q = isFactors s q && ltb q p && eqb (holder s q) (holder s p) && same (text (firstField s q)) (text (firstField s p))
+
+-- row 19, of the record at p: "submodel undeclared (no 5 here) or given factors twice"
+unfoldable pub isFactorsFault : Recipe → ℕ → Bool
+isFactorsFault s p = isFactors s p && (not (isSome (scaledBy s p)) || any (gaveFactors s p) (places s))
+
+-- row 19, at the later kind 8
+unfoldable pub fault₁₉ : Recipe → Option ℕ
+fault₁₉ s = first (isFactorsFault s) (places s)
+
 -- row 6: "definition reaches itself, used by main or not"
 unfoldable pub fault₆ : Recipe → Option ℕ
 fault₆ s = first (λ d. reaches s d d) (definitions s)
@@ -128,6 +140,6 @@ fault₆ s = first (λ d. reaches s d d) (definitions s)
 abbrev pub formRows : Recipe → List Row
 formRows s = row 1 (fault₁ s) ∷ row 2 (fault₂ s) ∷ row 3 (fault₃ s) ∷ []
 
--- rows 4 to 6, which look at what the records name
+-- rows 4, 5, 19 and 6, which look at what the records name
 abbrev pub namingRows : Recipe → List Row
-namingRows s = row 4 (fault₄ s) ∷ row 5 (fault₅ s) ∷ row 6 (fault₆ s) ∷ []
+namingRows s = row 4 (fault₄ s) ∷ row 5 (fault₅ s) ∷ row 19 (fault₁₉ s) ∷ row 6 (fault₆ s) ∷ []

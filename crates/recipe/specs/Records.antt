@@ -47,6 +47,8 @@ bodies =
     ∷ (aName ∷ aName ∷ aWay ∷ aName ∷ [])
     -- 7 replaced-by: owner, submodel, way, target
     ∷ (aName ∷ aName ∷ aWay ∷ aName ∷ [])
+    -- Paper 2, 8 factors: submodel, time factor or blank, extent factor or blank
+    ∷ (aName ∷ aNameOrBlank ∷ aNameOrBlank ∷ [])
     ∷ []
 
 -- the body of kind k
@@ -76,9 +78,9 @@ abbrev pub hasParts : List Part → Bool
 hasParts [] = false
 hasParts (x ∷ xs) = true
 
--- column "Kind": the kinds of the table
+-- column "Kind": the kinds of the table; the last, Paper 2's, is not read yet
 unfoldable pub isKnown : ℕ → Bool
-isKnown k = hasParts (bodyOf k)
+isKnown k = hasParts (bodyOf k) && ltb k 8
 
 -- "Each record is one kind byte and a body whose length the kind fixes": the bytes of a record of kind k
 unfoldable pub recordLength : ℕ → ℕ → ℕ
@@ -149,6 +151,10 @@ isOwned s p = isReplacement s p || isReplacedBy s p
 unfoldable pub isMark : Recipe → ℕ → Bool
 isMark s p = isDeletion s p || isReplacement s p || isReplacedBy s p
 
+-- Paper 2, "Kind 8 holds submodel, time factor or blank, extent factor or blank"
+unfoldable pub isFactors : Recipe → ℕ → Bool
+isFactors s p = eqb (kind s p) 8
+
 -- a mark or port
 abbrev pub isPointer : Recipe → ℕ → Bool
 isPointer s p = isMark s p || isPort s p
@@ -187,7 +193,7 @@ field s p k = fieldAt (s .width) (s .bytes) (p + 1 + k)
 unfoldable pub byte : Recipe → ℕ → ℕ → ℕ
 byte s p k = getD (s .bytes) (p + 1 + k) 0
 
--- column "Body": the first field, which is the name (kinds 1 to 4), the owner (6 and 7) or the submodel (5)
+-- column "Body": the first field, which is the name (kinds 1 to 4), the owner (6 and 7) or the submodel (5 and 8)
 unfoldable pub firstField : Recipe → ℕ → List ℕ
 firstField s p = field s p 0
 
@@ -230,3 +236,11 @@ way s p = byte s p (submodelOffset s p + s .width)
 -- the target's name, behind the way
 unfoldable pub targetField : Recipe → ℕ → List ℕ
 targetField s p = field s p (submodelOffset s p + s .width + 1)
+
+-- kind 8, "submodel, time factor or blank, extent factor or blank": the time factor
+unfoldable pub timeField : Recipe → ℕ → List ℕ
+timeField s p = field s p (partOffset (s .width) 8 1)
+
+-- the extent factor
+unfoldable pub extentField : Recipe → ℕ → List ℕ
+extentField s p = field s p (partOffset (s .width) 8 2)

@@ -59,6 +59,13 @@ pub enum Marked {
     Unmarked,
 }
 
+// The fields of a kind 8.
+pub struct FactorsFields {
+    pub submodel: usize,
+    pub time: usize,
+    pub extent: usize,
+}
+
 // A record, by its kind.
 pub enum Record {
     Model(usize),
@@ -68,6 +75,7 @@ pub enum Record {
     Deletion(Mark),
     Replacement(Mark),
     ReplacedBy(Mark),
+    Factors(FactorsFields),
 }
 
 // What a record reads as: itself, or it is refused by row 3.
@@ -106,6 +114,7 @@ pub fn record_length(k: u8, w: usize) -> usize
         2 | 3 | 6 | 7 => 2 + 3 * w,
         4 => 1 + 2 * w,
         5 => 2 + 2 * w,
+        8 => 1 + 3 * w,
         _ => 1,
     }
 }
@@ -306,6 +315,27 @@ fn read_submodel(s: &[u8], w: usize, p: usize) -> Read
     }))
 }
 
+// The factors of a submodel.
+fn read_factors(s: &[u8], w: usize, p: usize) -> Read
+    requires { ⌜ RecordAt (recipeAt w (now s)) p 8 (1 + 3 * w) ⌝ }
+    ensures { λ r. ⌜ r ≡ readingOf (recipeAt w (now (s .entry))) p ⌝ }
+{
+    let Field::Name(_) = field_at(s, w, p, 0) else {
+        return Read::Refused;
+    };
+    let (Field::Name(_) | Field::Blank) = field_at(s, w, p, w) else {
+        return Read::Refused;
+    };
+    let (Field::Name(_) | Field::Blank) = field_at(s, w, p, w + w) else {
+        return Read::Refused;
+    };
+    Read::As(Record::Factors(FactorsFields {
+        submodel: p + 1,
+        time: p + 1 + w,
+        extent: p + 1 + (w + w),
+    }))
+}
+
 // The mark at p, of kind k.
 fn read_mark(s: &[u8], w: usize, p: usize, k: u8) -> Marked
     requires { ⌜ MarkAt (recipeAt w (now s)) p k ⌝ }
@@ -345,6 +375,9 @@ pub fn read_record(s: &[u8], w: usize, p: usize) -> Read
     }
     if k == 4 {
         return read_submodel(s, w, p);
+    }
+    if k == 8 {
+        return read_factors(s, w, p);
     }
     if !is_mark(k) {
         return Read::Refused;

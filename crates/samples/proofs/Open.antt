@@ -5,14 +5,14 @@ use Rattle.names.specs.Names.{isLetter, isDigit, underscore, isFirst, isOther, 
 use Rattle.names.specs.Judging.{judged, areRefusals, handed}
 use Rattle.flat_table.specs.Classes.{isClass, hasParent, parentAllowed, referenceTable, referenceAllowed}
 use Rattle.flat_table.specs.Table.{mostRows, tableAnswer, rowsFrom, rowCount, rows, rowKind, rowName, rowParent, rowReference, rowNamed, fault₁₄, isMalformedRow, fault₁₅, isRepeatedRow, fault₁₆, isLinkFault, isParentRow, isParentFault, isReferenceRow, isReferenceFault, isRowFault, fault₁₇, tableRows, verdictOf, flatWidth, flatLength, tableVerdict}
-use Rattle.recipe.specs.Records.{isKnown, recordLength, kind, isModel, isElement, isPort, isSubmodel, isDeletion, isReplacement, isReplacedBy, isMark, next, isReadable, placesFrom, stopFrom, places, stop, field, byte, firstField, name, class, parentField, referenceField, modelField, submodelOffset, submodelField, way, targetField}
-use Rattle.recipe.specs.Definitions.{main, definitions, holder, recordsOf, elements, submodels, ports, isDeclared, named, definitionNamed, elementNamed, submodelNamed, portNamed, modelOf, ownerOf, elementIn, submodelOf, namedBy}
+use Rattle.recipe.specs.Records.{isKnown, recordLength, kind, isModel, isElement, isPort, isSubmodel, isDeletion, isReplacement, isReplacedBy, isMark, isFactors, next, isReadable, placesFrom, stopFrom, places, stop, field, byte, firstField, name, class, parentField, referenceField, modelField, submodelOffset, submodelField, way, targetField, timeField, extentField}
+use Rattle.recipe.specs.Definitions.{main, definitions, holder, recordsOf, elements, submodels, ports, isDeclared, named, definitionNamed, elementNamed, submodelNamed, portNamed, modelOf, ownerOf, elementIn, submodelOf, namedBy, scaledBy, scales, factorsOf}
 use Rattle.recipe.specs.Reaching.{reachesIn, reaches}
-use Rattle.recipe.specs.Reading.{atStart, mostBytes, fault₁, fault₂, endsWithUnderscore, isWay, reads, readsBehind, isForm, fault₃, shareNames, repeats, fault₄, isParent, isParentFault as isParentFault′, isOwnPortFault, isSubmodelFieldFault, isOwnerFault, isModelFault, isPortFault, isUndeclared, fault₅, fault₆}
+use Rattle.recipe.specs.Reading.{atStart, mostBytes, fault₁, fault₂, endsWithUnderscore, isWay, reads, readsBehind, isForm, fault₃, shareNames, repeats, fault₄, isParent, isParentFault as isParentFault′, isOwnPortFault, isSubmodelFieldFault, isOwnerFault, isModelFault, isPortFault, isUndeclared, fault₅, gaveFactors, isFactorsFault, fault₁₉, fault₆}
 use Rattle.tree.specs.Tree.{pathsBelow, mostDepth, instances, definitionBelow, definitionAt, node, sameNode, nodes, treeElements, parentOf, referenceOf, through, elementTarget, targetNamed, submodelNames, targetBelow, targetBy, targetWithin, target}
 use Rattle.tree.specs.Faults.{mostInstances, mostElements, isTooLarge, fault₇, isTargetFault, fault₈, isClassFault, fault₁₀}
 use Rattle.marks.specs.Marks.{treeMarks, treePointers, from, aim, aimsAt, sameAim, owner, ownsBy, removes, replaces, isMarkedGone, isGone, survivors, stepDown, step, chainWithin, chainEnd, isAtOrBelow, marksClash, ownerClash, portsClash, portClash, conflict}
-use Rattle.marks.specs.Faults.{conflictsWithEarlier, fault₉, aimsAtGone, fault₁₁, isReference, isReferenceFault as isReferenceFault′, fault₁₂}
+use Rattle.marks.specs.Faults.{conflictsWithEarlier, fault₉, aimsAtGone, fault₁₁, isReference, isReferenceFault as isReferenceFault′, fault₁₂, factorNamed, isFactor, isFactorFault, hasFactorFault, isUnfactored, fault₂₀}
 use Rattle.compose.specs.Rows.{refusalOf}
 use Rattle.flat_names.specs.Prefixes.{declaredNames, namesAround, withUnderscores, isTaken, fewestFrom, fewest, prefix, flatName}
 use Rattle.composer.specs.Flat.{flatField, flatReference, flatRecord, flat}
@@ -23,5 +23,5 @@ use Rattle.samples.specs.Samples.{nameField, model, element, port, submo
 use Rattle.samples.specs.Walks.{flatNameField, walked, unwalked, lengthened, deepest, walks, walkHoldsOf, walksHold}
 
 unfoldable pub open-specs : Unit {0}
-unfolding padded isLetter isDigit underscore isFirst isOther nonZero areNameCharacters text isBlank isName isNameOrBlank fieldAt judged areRefusals handed isClass hasParent parentAllowed referenceTable referenceAllowed mostRows tableAnswer rowsFrom rowCount rows rowKind rowName rowParent rowReference rowNamed fault₁₄ isMalformedRow fault₁₅ isRepeatedRow fault₁₆ isLinkFault isParentRow isParentFault isReferenceRow isReferenceFault isRowFault fault₁₇ tableRows verdictOf flatWidth flatLength tableVerdict isKnown recordLength kind isModel isElement isPort isSubmodel isDeletion isReplacement isReplacedBy isMark next isReadable placesFrom stopFrom places stop field byte firstField name class parentField referenceField modelField submodelOffset submodelField way targetField main definitions holder recordsOf elements submodels ports isDeclared named definitionNamed elementNamed submodelNamed portNamed modelOf ownerOf elementIn submodelOf namedBy reachesIn reaches atStart mostBytes fault₁ fault₂ endsWithUnderscore isWay reads readsBehind isForm fault₃ shareNames repeats fault₄ isParent isParentFault′ isOwnPortFault isSubmodelFieldFault isOwnerFault isModelFault isPortFault isUndeclared fault₅ fault₆ pathsBelow mostDepth instances definitionBelow definitionAt node sameNode nodes treeElements parentOf referenceOf through elementTarget targetNamed submodelNames targetBelow targetBy targetWithin target mostInstances mostElements isTooLarge fault₇ isTargetFault fault₈ isClassFault fault₁₀ treeMarks treePointers from aim aimsAt sameAim owner ownsBy removes replaces isMarkedGone isGone survivors stepDown step chainWithin chainEnd isAtOrBelow marksClash ownerClash portsClash portClash conflict conflictsWithEarlier fault₉ aimsAtGone fault₁₁ isReference isReferenceFault′ fault₁₂ refusalOf declaredNames namesAround withUnderscores isTaken fewestFrom fewest prefix flatName flatField flatReference flatRecord flat nameWidth recipeOf fault₁₃ accepted refused refusedOr verdict written characters decimalIn decimal shown rowLine tableLines refusalLine printedOf printed inputRoom outputRoom programOutput isNamed originOf walkedTo walkRefused walkAnswer walkBack nameField model element port submodel deletion replacement replacedBy row cell sample c1 aOfCell cForV sampleR tableR line5 line6 refuses gives starred reactor plant shell fiveSteps pair nested portsDown beside tree64 five elements1023 moreOfReading moreOfTree moreOfConflicts moreOfGone moreOfPrefixes unclosed closed starredTables moreTables outputBefore sameAnswer holdsOf tableHoldsOf printedHolds starredHold lengthsHold moreHold flatNameField walked unwalked lengthened deepest walks walkHoldsOf walksHold
+unfolding padded isLetter isDigit underscore isFirst isOther nonZero areNameCharacters text isBlank isName isNameOrBlank fieldAt judged areRefusals handed isClass hasParent parentAllowed referenceTable referenceAllowed mostRows tableAnswer rowsFrom rowCount rows rowKind rowName rowParent rowReference rowNamed fault₁₄ isMalformedRow fault₁₅ isRepeatedRow fault₁₆ isLinkFault isParentRow isParentFault isReferenceRow isReferenceFault isRowFault fault₁₇ tableRows verdictOf flatWidth flatLength tableVerdict isKnown recordLength kind isModel isElement isPort isSubmodel isDeletion isReplacement isReplacedBy isMark isFactors next isReadable placesFrom stopFrom places stop field byte firstField name class parentField referenceField modelField submodelOffset submodelField way targetField timeField extentField main definitions holder recordsOf elements submodels ports isDeclared named definitionNamed elementNamed submodelNamed portNamed modelOf ownerOf elementIn submodelOf namedBy scaledBy scales factorsOf reachesIn reaches atStart mostBytes fault₁ fault₂ endsWithUnderscore isWay reads readsBehind isForm fault₃ shareNames repeats fault₄ isParent isParentFault′ isOwnPortFault isSubmodelFieldFault isOwnerFault isModelFault isPortFault isUndeclared fault₅ gaveFactors isFactorsFault fault₁₉ fault₆ pathsBelow mostDepth instances definitionBelow definitionAt node sameNode nodes treeElements parentOf referenceOf through elementTarget targetNamed submodelNames targetBelow targetBy targetWithin target mostInstances mostElements isTooLarge fault₇ isTargetFault fault₈ isClassFault fault₁₀ treeMarks treePointers from aim aimsAt sameAim owner ownsBy removes replaces isMarkedGone isGone survivors stepDown step chainWithin chainEnd isAtOrBelow marksClash ownerClash portsClash portClash conflict conflictsWithEarlier fault₉ aimsAtGone fault₁₁ isReference isReferenceFault′ fault₁₂ factorNamed isFactor isFactorFault hasFactorFault isUnfactored fault₂₀ refusalOf declaredNames namesAround withUnderscores isTaken fewestFrom fewest prefix flatName flatField flatReference flatRecord flat nameWidth recipeOf fault₁₃ accepted refused refusedOr verdict written characters decimalIn decimal shown rowLine tableLines refusalLine printedOf printed inputRoom outputRoom programOutput isNamed originOf walkedTo walkRefused walkAnswer walkBack nameField model element port submodel deletion replacement replacedBy row cell sample c1 aOfCell cForV sampleR tableR line5 line6 refuses gives starred reactor plant shell fiveSteps pair nested portsDown beside tree64 five elements1023 moreOfReading moreOfTree moreOfConflicts moreOfGone moreOfPrefixes unclosed closed starredTables moreTables outputBefore sameAnswer holdsOf tableHoldsOf printedHolds starredHold lengthsHold moreHold flatNameField walked unwalked lengthened deepest walks walkHoldsOf walksHold
 open-specs = tt

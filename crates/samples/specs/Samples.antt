@@ -441,7 +441,7 @@ starredHold = every holdsOf starred && every tableHoldsOf starredTables && print
 -- 01's numbers: column "Bytes after kind", "68-byte fields", "205 bytes", "209,920"
 unfoldable pub lengthsHold : Bool
 lengthsHold =
-    same (map (bytesOf nameWidth) bodies) (0 ∷ 12 ∷ 37 ∷ 37 ∷ 24 ∷ 25 ∷ 37 ∷ 37 ∷ [])
+    same (map (bytesOf nameWidth) bodies) (0 ∷ 12 ∷ 37 ∷ 37 ∷ 24 ∷ 25 ∷ 37 ∷ 37 ∷ 36 ∷ [])
     && eqb (flatWidth nameWidth) 68
     && eqb (flatLength nameWidth) 205
     && eqb (mostRows * flatLength nameWidth) 209920

@@ -6,9 +6,13 @@
 --   2  element_count     a model              how many elements it has                         number_records
 --   3  parent, owner,    an element, a mark   the element that its parent, or owner, names     link_records
 --      model             a submodel           its model's definition                           link_records
+--      time_factor       a kind 8             the element that its time factor names           link_records
 --   4  reference         an element           the element that its reference names             link_records
 --      submodel          a port or mark       the submodel that it names, 0 for a blank        link_records
+--      submodel          a kind 8             the submodel that it names, 0 for none           link_records
 --   5  named_record      a port or mark       the element or port that it names, 0 for none    name_targets
+--      extent_factor     a kind 8             the element that its extent factor names         link_records
+--      factors           a submodel           its kind 8, 0 for none                           pair_factors
 --   6  height            a model              a number that falls along its submodels          find_heights
 --   7  element_offset    a submodel           the elements of its instance before its subtree  plant
 --   8  first_instance    a model              one more than its first instance's number        thread_instances
@@ -25,9 +29,9 @@ use lib.ListN.{length, getD}
 use lib.Dec.{eqb}
 use Rattle.names.specs.Lists.{In}
 use Rattle.names.specs.Names.{isBlank}
-use Rattle.recipe.specs.Records.{Recipe, places, isElement, isSubmodel, isOwned, isPointer, parentField, referenceField, submodelField}
-use Rattle.recipe.specs.Definitions.{definitions, holder, elements, submodels, modelOf, ownerOf, elementIn, submodelOf, namedBy}
-use Rattle.recipe.specs.Reading.{fault₃, fault₄, fault₅, fault₆}
+use Rattle.recipe.specs.Records.{Recipe, places, isElement, isSubmodel, isFactors, isOwned, isPointer, parentField, referenceField, submodelField, timeField, extentField}
+use Rattle.recipe.specs.Definitions.{definitions, holder, elements, submodels, modelOf, ownerOf, elementIn, submodelOf, namedBy, scaledBy, factorsOf}
+use Rattle.recipe.specs.Reading.{fault₃, fault₄, fault₅, fault₁₉, fault₆}
 use Rattle.shadow.specs.Shadow.{Shadowed, Cell}
 
 -- f of each before a, added
@@ -46,7 +50,7 @@ pub record Numbered (s : Recipe) (t : List ℕ) : Type 0 where
   pub orders : (e : ℕ) → In e (places s) → isElement s e ≡ true → getD t (e + 1) 0 ≡ order s (holder s e) e
   pub counts : Cell (definitions s) 2 (λ d. length (elements s d)) t
 
--- the cells 3 to 5 besides, of a recipe that rows 1 to 5 do not refuse: what its records name
+-- the cells 3 to 5 besides, of a recipe that rows 1 to 5 do not refuse: what its records name; nothing is said of cell 5 of a submodel
 pub record Linked (s : Recipe) (t : List ℕ) : Type 0 where
   pub numbered : Numbered s t
   pub row₃ : fault₃ s ≡ none
@@ -59,6 +63,18 @@ pub record Linked (s : Recipe) (t : List ℕ) : Type 0 where
   pub named-submodels : (r : ℕ) → In r (places s) → isPointer s r ≡ true → isBlank (submodelField s r) ≡ false → getD t (r + 4) 0 ≡ submodelOf s r
   pub no-submodels : (r : ℕ) → In r (places s) → isPointer s r ≡ true → isBlank (submodelField s r) ≡ true → getD t (r + 4) 0 ≡ 0
   pub named-records : (r : ℕ) → In r (places s) → isPointer s r ≡ true → getD t (r + 5) 0 ≡ Option·getD (namedBy s r) 0
+  pub times : (f : ℕ) → In f (places s) → isFactors s f ≡ true → getD t (f + 3) 0 ≡ Option·getD (elementIn s f (timeField s f)) 0
+  pub scaled : (f : ℕ) → In f (places s) → isFactors s f ≡ true → getD t (f + 4) 0 ≡ Option·getD (scaledBy s f) 0
+  pub extents : (f : ℕ) → In f (places s) → isFactors s f ≡ true → getD t (f + 5) 0 ≡ Option·getD (elementIn s f (extentField s f)) 0
+
+-- cell 5 of each submodel, before its kind 8 is known
+abbrev pub Unpaired : Recipe → List ℕ → Type 0
+Unpaired s t = (m : ℕ) → In m (places s) → isSubmodel s m ≡ true → getD t (m + 5) 0 ≡ 0
+
+-- and once it is known, where row 19 does not apply either
+pub record Paired (s : Recipe) (t : List ℕ) : Type 0 where
+  pub row₁₉ : fault₁₉ s ≡ none
+  pub factors : (m : ℕ) → In m (places s) → isSubmodel s m ≡ true → getD t (m + 5) 0 ≡ Option·getD (factorsOf s m) 0
 
 -- cell 6: each definition's height is 1 at least, and greater than that of each of its submodels' models
 pub record Heights (s : Recipe) (t : List ℕ) : Type 0 where
@@ -68,5 +84,6 @@ pub record Heights (s : Recipe) (t : List ℕ) : Type 0 where
 -- cell 6 besides, where row 6 does not apply either
 pub record Measured (s : Recipe) (t : List ℕ) : Type 0 where
   pub linked : Linked s t
+  pub paired : Paired s t
   pub row₆ : fault₆ s ≡ none
   pub heights : Heights s t

@@ -23,11 +23,17 @@ pub const OWNER: usize = 3;
 
 pub const MODEL: usize = 3;
 
+pub const TIME_FACTOR: usize = 3;
+
 pub const REFERENCE: usize = 4;
 
 pub const SUBMODEL: usize = 4;
 
 pub const NAMED_RECORD: usize = 5;
+
+pub const EXTENT_FACTOR: usize = 5;
+
+pub const FACTORS: usize = 5;
 
 pub const HEIGHT: usize = 6;
 

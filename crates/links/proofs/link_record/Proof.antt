@@ -51,14 +51,20 @@ link-owned-requires-2 c κs =
     let at-r7 = c .before in let at-r = at-r7 .before .before .before in let at-read-record = at-r .before .before in let at-start = at-read-record .before .before .before .before .before .before in
     let x = at-start .pre in let a = at-start .args in let R : Recipe = record { width = a .w; bytes = a .s .now } in let p = a .h .place in let i = x .placed in let e = sym (at-r .r .given .1 ∙ ap As (at-r7 .r7 .given .1)) ∙ at-read-record .read-record .ensures in (x, read-right R p i e)
 
+link-factors-requires : tie.Need-link-factors-requires
+link-factors-requires c κs =
+    let at-r8 = c .before in let at-r = at-r8 .before .before .before in let at-read-record = at-r .before .before in let at-start = at-read-record .before .before .before .before .before .before in
+    let x = at-start .pre in let a = at-start .args in let R : Recipe = record { width = a .w; bytes = a .s .now } in let p = a .h .place in let i = x .placed in let e = sym (at-r .r .given .1 ∙ ap As (at-r8 .r8 .given .1)) ∙ at-read-record .read-record .ensures in (x, read-right R p i e)
+
 returns-2 : tie.Need-returns-2
 returns-2 c =
     let at-r = c .before .before .before in let at-read-record = at-r .before .before in let at-start = at-read-record .before .before .before .before .before .before in
     let x = at-start .pre in let a = at-start .args in let R : Recipe = record { width = a .w; bytes = a .s .now } in let p = a .h .place in let i = x .placed in let e = sym (at-r .r .given .1 ∙ ap As (c .enum-told2 .given .1)) ∙ at-read-record .read-record .ensures in model-links R p (read-right R p i e)
 
 pub link-record-spec : {M : Type 1} → statement M
-link-record-spec = tie.close (tie.spec read-record-requires (λ c. search needs) (λ c. search needs) returns (λ c. search needs)
-    (λ c. search needs) link-element-requires (λ c. search needs) link-port-requires (λ c. search needs) link-submodel-requires
-    (λ c. search needs) link-pointer-requires (λ c. search needs) link-owned-requires (λ c. search needs) link-owned-requires-2
-    returns-2 (λ c. search needs) (λ c. search needs) (λ c. search needs) (λ c. search needs) (λ c. search needs)
-    (λ c. search needs))
+link-record-spec = tie.close (tie.spec read-record-requires (λ c. search needs) (λ c. search needs) returns
+    (λ c. search needs) (λ c. search needs) link-element-requires (λ c. search needs) link-port-requires
+    (λ c. search needs) link-submodel-requires (λ c. search needs) link-pointer-requires (λ c. search needs)
+    link-owned-requires (λ c. search needs) link-owned-requires-2 (λ c. search needs) link-factors-requires returns-2
+    (λ c. search needs) (λ c. search needs) (λ c. search needs) (λ c. search needs) (λ c. search needs)
+    (λ c. search needs) (λ c. search needs))

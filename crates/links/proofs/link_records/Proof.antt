@@ -8,12 +8,12 @@ use mathlib.Core.Path.{refl, _∙_}
 use mathlib.Core.Logic.{inl, inr}
 use mathlib.Core.List.{[], _∷_}
 use native.Mathlib.Omega.{arith}
-use Rattle.names.proofs.Scans.{at-found, nothing-found}
+use Rattle.names.proofs.Scans.{at-found, not-nothing, nothing-found}
 use Rattle.recipe.specs.Reading.{isUndeclared}
 use Rattle.recipe.proofs.Going.{Going, going-start, here, going-hit, going-on, going-end}
 use Rattle.shadow.proofs.Cells.{row-kept, Walking, walk-start, walk-place, walk-room, walk-fits, walk-one, walk-end, Filling, filling-start, filling-one, filling-end}
 use Rattle.shadow.proofs.Columns.{numbered-over}
-use Rattle.links.proofs.Targets.{linkCell, links-row, links-fault, fault-five, not-nothing}
+use Rattle.links.proofs.Targets.{linkCell, links-row, links-fault, fault-five}
 use Rattle.links.proofs.link_records.Statement.{statement}
 use Rattle.links.proofs.link_records.Tie as tie
 
@@ -94,5 +94,6 @@ returns-2 c =
 
 pub link-records-spec : {M : Type 1} → statement M
 link-records-spec = tie.close (tie.spec Inv-loop μ-loop loop-holds cell-requires link-record-requires same-length
-    returns (λ c. search needs) set-cell-requires (λ c. search needs) set-cell-requires-2 (λ c. search needs) set-cell-requires-3
-    shared-slice-read-record-length record-length-requires add-p loop-less loop-again same-length-2 returns-2)
+    returns (λ c. search needs) set-cell-requires (λ c. search needs) set-cell-requires-2 (λ c. search needs)
+    set-cell-requires-3 shared-slice-read-record-length record-length-requires add-p loop-less loop-again same-length-2
+    returns-2)

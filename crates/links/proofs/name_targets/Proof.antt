@@ -7,7 +7,7 @@ use mathlib.Core.Logic.{inl}
 use mathlib.Core.List.{[], _∷_}
 use native.Mathlib.Omega.{arith}
 use Rattle.shadow.proofs.Cells.{row-kept, Walking, walk-start, walk-place, walk-room, walk-fits, walk-one, walk-end, Filling, filling-start, filling-one, filling-end}
-use Rattle.links.proofs.Targets.{nameCell, pointed-over, target-row, linked-end}
+use Rattle.links.proofs.Targets.{nameCell, pointed-over, target-row, linked-end, unpaired-end}
 use Rattle.links.proofs.name_targets.Statement.{statement}
 use Rattle.links.proofs.name_targets.Tie as tie
 
@@ -54,7 +54,7 @@ same-length : tie.Need-same-length Inv-loop μ-loop
 same-length c = c .before .loop .inv .0 .kept .long
 
 returns : tie.Need-returns Inv-loop μ-loop
-returns c = let pre = c .before .before .before .before .before .before .before .before .pre in let g = c .before .loop .inv .0 in linked-end (pre .0 .indexed .formed) (pre .0 .once) (pre .1 .0) (pre .1 .1) (g .kept) (filling-end (c .before .loop .inv .1) (walk-end (pre .1 .0 .numbered .shadowed) g (c .loop-test .left)) 5 (inl refl))
+returns c = let pre = c .before .before .before .before .before .before .before .before .pre in let g = c .before .loop .inv .0 in let f = filling-end (c .before .loop .inv .1) (walk-end (pre .1 .0 .numbered .shadowed) g (c .loop-test .left)) 5 (inl refl) in (linked-end (pre .0 .indexed .formed) (pre .0 .once) (pre .1 .0) (pre .1 .1) (g .kept) f, unpaired-end (pre .0 .indexed .formed) (pre .0 .once) (pre .1 .0) (pre .1 .1) (g .kept) f)
 
 pub name-targets-spec : {M : Type 1} → statement M
 name-targets-spec = tie.close (tie.spec Inv-loop μ-loop loop-holds name-target-requires shared-slice-read-record-length
