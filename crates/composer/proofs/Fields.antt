@@ -13,7 +13,7 @@ use native.Mathlib.Omega.{arith}
 use Rattle.names.specs.Lists.{In, padded}
 use Rattle.names.proofs.Lists.{keep-in}
 use Rattle.names.proofs.Stores.{sets-append}
-use Rattle.names.proofs.Tests.{by-option}
+use Rattle.names.proofs.Tests.{by-option, not-none, some-map}
 use Rattle.flat_table.specs.Table.{flatWidth}
 use Rattle.recipe.specs.Definitions.{elementIn, holder}
 use Rattle.recipe.specs.Records.{Recipe, byte, class, parentField}
@@ -23,25 +23,25 @@ use Rattle.shadow.proofs.Cells.{row-room as cells-room}
 use Rattle.tree.specs.Faults.{fault₇}
 use Rattle.tree.specs.Numbers.{number}
 use Rattle.tree.specs.Tree.{Node, instances, node, parentOf, referenceOf, treeElements}
-use Rattle.tree.proofs.Nodes.{parent-in, reference-in}
+use Rattle.tree.proofs.Nodes.{parent-in}
 use Rattle.targets.proofs.Resolving.{not-zero}
 use Rattle.references.specs.Ends.{endOf}
 use Rattle.marks.specs.Marks.{chainEnd, isGone, survivors}
-use Rattle.marks.proofs.Chain.{chain-in}
+use Rattle.elements.specs.Columns.{ElementRows}
 use Rattle.elements.proofs.Elements.{element-held}
 use Rattle.flat_names.specs.Prefixes.{flatName}
 use Rattle.composer.specs.Flat.{flatField, flatRecord, flatReference}
 use Rattle.composer.specs.Writing.{SiteAt, SiteInTree, WriterRequires, elementAt, siteOf}
 use Rattle.composer.proofs.ByNumber as by
-use Rattle.composer.proofs.Lengths.{name-field, parent-field}
+use Rattle.composer.proofs.Lengths.{name-field, parent-field, reference-end-in}
 
 -- ---- a field by its site
 module _ (s : Recipe) (i m : ℕ) where
-  no-site : m ≡ 0 → siteOf s i m ≡ none
+  pub no-site : m ≡ 0 → siteOf s i m ≡ none
   unfolding siteOf
   no-site z = rw (eq-eqb m 0 z)
 
-  a-site : (m ≡ 0 → ⊥) → siteOf s i m ≡ some (node (getD (instances s) i []) m)
+  pub a-site : (m ≡ 0 → ⊥) → siteOf s i m ≡ some (node (getD (instances s) i []) m)
   unfolding siteOf
   a-site z = rw (ne-eqb m 0 z)
 
@@ -68,27 +68,83 @@ four-stores out A B C at k f a b =
     ∙ sym (sets-append (A ++ B) o (at + 1) C)
     ∙ rw (add-one at) refl
 
+-- ---- an element by its row
+module _ {s : Recipe} {el : List ℕ} (h₇ : fault₇ s ≡ none) (R : ElementRows s el) where
+  -- the element of number k
+  module _ (k : ℕ) (l : k < length (treeElements s)) where
+    some-record : {q : ℕ} → q ≡ getD el (5 * k + 0) 0 → q ≡ 0 → ⊥
+    some-record {q} r z =
+        let h = element-held s (elementAt s k) (by.element-in s h₇ k l) in
+        not-zero s _ (elementAt s k .place) (h .inside) (sym (by.record-is h₇ R k l r) ∙ z)
+
+    -- its own site
+    pub site-of : {i q : ℕ} → i ≡ getD el (5 * k + 1) 0 → q ≡ getD el (5 * k + 0) 0 → siteOf s i q ≡ some (elementAt s k)
+    site-of {i} {q} h r = a-site s i q (some-record r) ∙ ap some (by.site-is h₇ R k l h r)
+
+    pub site-tree : {i q : ℕ} → i ≡ getD el (5 * k + 1) 0 → q ≡ getD el (5 * k + 0) 0 → SiteInTree s i q
+    site-tree h r z = (by.instance-low h₇ R k l h, rw (by.site-is h₇ R k l h r) (by.element-in s h₇ k l))
+
+    -- its class
+    module _ {q : ℕ} (r : q ≡ getD el (5 * k + 0) 0) where
+      pub class-inside : q + 1 + s .width < length (s .bytes)
+      class-inside =
+          let h = element-held s (elementAt s k) (by.element-in s h₇ k l) in
+          rw (by.record-is h₇ R k l r) (class-low s (elementAt s k .place) (h .placed) (h .passes))
+
+      pub class-is : getD (s .bytes) (q + 1 + s .width) 0 ≡ class s (elementAt s k .place)
+      unfolding class byte
+      class-is = ap (λ (j : ℕ). getD (s .bytes) (j + 1 + s .width) 0) (by.record-is h₇ R k l r)
+
+  -- none, or an element of the tree: z is one more than its number, or 0
+  module _ {o : Option Node} (inside : (y : Node) → o ≡ some y → In y (treeElements s)) {z : ℕ} (blank : o ≡ none → z ≡ 0) (filled : (y : Node) → o ≡ some y → z ≡ number s y + 1) where
+    pub end-room : 5 * z ≤ length el
+    end-room =
+        by-option o
+        (λ n. omega (arith, blank n))
+        (λ y n.
+        let is = by.element-is s h₇ y (inside y n) in
+        omega (arith, filled y n, by.row-room h₇ R (number s y) (is .0)))
+
+    module _ {i m : ℕ} (at : SiteAt el z i m) where
+      -- the row of the element of number k
+      row-at : (k : ℕ) → z ≡ k + 1 → (i ≡ getD el (5 * k + 1) 0) × (m ≡ getD el (5 * k + 0) 0)
+      row-at k e =
+          let f : z ≡ 0 → ⊥ = λ n. omega arith in
+          let d : z - 1 ≡ k = omega arith in
+          (at .within f ∙ ap (λ (j : ℕ). getD el (5 * j + 1) 0) d, at .records f ∙ ap (λ (j : ℕ). getD el (5 * j + 0) 0) d)
+
+      pub end-site : siteOf s i m ≡ o
+      end-site =
+          by-option o
+          (λ n. no-site s i m (at .blank (blank n)) ∙ sym n)
+          (λ y n.
+          let is = by.element-is s h₇ y (inside y n) in
+          let r = row-at (number s y) (filled y n) in
+          site-of (number s y) (is .0) (r .0) (r .1) ∙ ap some (is .1) ∙ sym n)
+
+      pub end-tree : SiteInTree s i m
+      end-tree =
+          by-option o
+          (λ n f. absurd (f (at .blank (blank n))))
+          (λ y n.
+          let is = by.element-is s h₇ y (inside y n) in
+          let r = row-at (number s y) (filled y n) in
+          site-tree (number s y) (is .0) (r .0) (r .1))
+
 -- ---- the element of number e, a survivor
 module _ {s : Recipe} {t el pre len : List ℕ} {elems : ℕ} (W : WriterRequires s t el pre len elems) where
   h₇ : fault₇ s ≡ none
   h₇ = W .fates .row₇
 
-  -- the element of number k, by its row
-  module _ (k : ℕ) (l : k < length (treeElements s)) where
-    k-tree : In (elementAt s k) (treeElements s)
-    k-tree = by.element-in s h₇ k l
+  k-tree : (k : ℕ) → k < length (treeElements s) → In (elementAt s k) (treeElements s)
+  k-tree k l = by.element-in s h₇ k l
 
-    some-record : {q : ℕ} → q ≡ getD el (5 * k + 0) 0 → q ≡ 0 → ⊥
-    some-record {q} r z =
-        let h = element-held s (elementAt s k) k-tree in
-        not-zero s _ (elementAt s k .place) (h .inside) (sym (by.record-is h₇ (W .elements) k l r) ∙ z)
+  -- its own site
+  pub own-site : (k : ℕ) → k < length (treeElements s) → {i q : ℕ} → i ≡ getD el (5 * k + 1) 0 → q ≡ getD el (5 * k + 0) 0 → siteOf s i q ≡ some (elementAt s k)
+  own-site k l h r = site-of h₇ (W .elements) k l h r
 
-    -- its own site
-    pub own-site : {i q : ℕ} → i ≡ getD el (5 * k + 1) 0 → q ≡ getD el (5 * k + 0) 0 → siteOf s i q ≡ some (elementAt s k)
-    own-site {i} {q} h r = a-site s i q (some-record r) ∙ ap some (by.site-is h₇ (W .elements) k l h r)
-
-    pub own-tree : {i q : ℕ} → i ≡ getD el (5 * k + 1) 0 → q ≡ getD el (5 * k + 0) 0 → SiteInTree s i q
-    own-tree h r z = (by.instance-low h₇ (W .elements) k l h, rw (by.site-is h₇ (W .elements) k l h r) k-tree)
+  pub own-tree : (k : ℕ) → k < length (treeElements s) → {i q : ℕ} → i ≡ getD el (5 * k + 1) 0 → q ≡ getD el (5 * k + 0) 0 → SiteInTree s i q
+  own-tree k l h r = site-tree h₇ (W .elements) k l h r
 
   -- ---- the element of number e, a survivor: its parent, and the end of the chain from its reference
   module _ {e : ℕ} (le : e < length (treeElements s)) where
@@ -98,16 +154,6 @@ module _ {s : Recipe} {t el pre len : List ℕ} {elems : ℕ} (W : WriterRequire
     module _ {q : ℕ} (hq : q ≡ getD el (5 * e + 0) 0) where
       pub parent-room : q + 13 ≤ length t
       parent-room = omega (arith, by.record-is h₇ (W .elements) e le hq, cells-room (W .shadowed) (x .place) (element-held s x (k-tree e le) .placed))
-
-      -- its class
-      pub class-inside : q + 1 + s .width < length (s .bytes)
-      class-inside =
-          let h = element-held s x (k-tree e le) in
-          rw (by.record-is h₇ (W .elements) e le hq) (class-low s (x .place) (h .placed) (h .passes))
-
-      class-is : getD (s .bytes) (q + 1 + s .width) 0 ≡ class s (x .place)
-      unfolding class byte
-      class-is = ap (λ (k : ℕ). getD (s .bytes) (k + 1 + s .width) 0) (by.record-is h₇ (W .elements) e le hq)
 
       -- its parent
       module _ {i m : ℕ} (hi : i ≡ getD el (5 * e + 1) 0) (hm : m ≡ getD t (q + 3) 0) where
@@ -139,45 +185,35 @@ module _ {s : Recipe} {t el pre len : List ℕ} {elems : ℕ} (W : WriterRequire
       end-is : getD el (5 * e + 4) 0 ≡ endOf s x
       end-is = sym (by.at-number h₇ (W .elements) e le 4) ∙ W .ends x x-survives
 
-      -- none, or the element whose number is one less
-      end-cases : {P : Type 0} → (endOf s x ≡ 0 → flatReference s x ≡ none → P)
-          → ((k : ℕ) → k < length (treeElements s) → endOf s x ≡ k + 1 → flatReference s x ≡ some (elementAt s k) → P) → P
-      unfolding endOf flatReference chainEnd
-      end-cases f g =
+      -- it is 0, or one more than the number of that end
+      end-none : flatReference s x ≡ none → getD el (5 * e + 4) 0 ≡ 0
+      unfolding endOf flatReference
+      end-none n =
           by-option (referenceOf s x)
-          (λ n. f (rw (n, endOf)) (rw n))
-          (λ y n.
-          let in-end = chain-in s (W .row₅) (W .fates .row₇) 5 y (reference-in s x y (k-tree e le) n) in
-          let is = by.element-is s (W .fates .row₇) (chainEnd s y) in-end in
-          g (number s (chainEnd s y)) (is .0) (rw (n, endOf)) (rw n (ap some (sym (is .1)))))
+          (λ k. end-is ∙ rw (k, endOf))
+          (λ y k. let g : flatReference s x ≡ some (chainEnd s y) = rw k in not-none (sym n ∙ g))
 
-      pub end-room : 5 * getD el (5 * e + 4) 0 ≤ length el
-      end-room = end-cases (λ z n. omega (arith, end-is)) (λ k l z n. omega (arith, end-is, by.row-room h₇ (W .elements) k l))
+      end-number : (v : Node) → referenceOf s x ≡ some v → endOf s x ≡ number s (chainEnd s v) + 1
+      unfolding endOf
+      end-number v k = rw (k, endOf)
 
-      module _ {i m : ℕ} (at : SiteAt el (getD el (5 * e + 4) 0) i m) where
-        before-end : (k : ℕ) → endOf s x ≡ k + 1 → getD el (5 * e + 4) 0 - 1 ≡ k
-        before-end k z = omega (arith, end-is)
+      end-some : (y : Node) → flatReference s x ≡ some y → getD el (5 * e + 4) 0 ≡ number s y + 1
+      unfolding flatReference
+      end-some y n =
+          let r = some-map (chainEnd s) (referenceOf s x) y n in
+          end-is ∙ end-number (r .0) (r .1) ∙ ap (λ (v : Node). number s v + 1) (sym (r .2))
 
-        filled : (k : ℕ) → endOf s x ≡ k + 1 → getD el (5 * e + 4) 0 ≡ 0 → ⊥
-        filled k z n = omega (arith, end-is)
+      end-inside : (y : Node) → flatReference s x ≡ some y → In y (treeElements s)
+      end-inside y n = reference-end-in s (omega (arith, W .naming .wide)) (W .naming .formed) h₇ (W .row₅) x y (k-tree e le) n
 
-        within-is : (k : ℕ) → endOf s x ≡ k + 1 → i ≡ getD el (5 * k + 1) 0
-        within-is k z = at .within (filled k z) ∙ ap (λ (j : ℕ). getD el (5 * j + 1) 0) (before-end k z)
+      pub reference-room : 5 * getD el (5 * e + 4) 0 ≤ length el
+      reference-room = end-room h₇ (W .elements) end-inside end-none end-some
 
-        at-record : (k : ℕ) → endOf s x ≡ k + 1 → m ≡ getD el (5 * k + 0) 0
-        at-record k z = at .records (filled k z) ∙ ap (λ (j : ℕ). getD el (5 * j + 0) 0) (before-end k z)
+      pub reference-site : {i m : ℕ} → SiteAt el (getD el (5 * e + 4) 0) i m → siteOf s i m ≡ flatReference s x
+      reference-site at = end-site h₇ (W .elements) end-inside end-none end-some at
 
-        pub reference-site : siteOf s i m ≡ flatReference s x
-        reference-site =
-            end-cases
-            (λ z n. no-site s i m (at .blank (end-is ∙ z)) ∙ sym n)
-            (λ k l z n. own-site k l (within-is k z) (at-record k z) ∙ sym n)
-
-        pub reference-tree : SiteInTree s i m
-        reference-tree =
-            end-cases
-            (λ z n. λ f. absurd (f (at .blank (end-is ∙ z))))
-            (λ k l z n. own-tree k l (within-is k z) (at-record k z))
+      pub reference-tree : {i m : ℕ} → SiteAt el (getD el (5 * e + 4) 0) i m → SiteInTree s i m
+      reference-tree at = end-tree h₇ (W .elements) end-inside end-none end-some at
 
     -- ---- its record
     pub record-written : {q f : ℕ} (out : List ℕ) (at : ℕ) {out₁ out₂ out₃ : List ℕ} {a b c : Option Node} → q ≡ getD el (5 * e + 0) 0 → f ≡ flatWidth (s .width)
@@ -198,4 +234,4 @@ module _ {s : Recipe} {t el pre len : List ℕ} {elems : ℕ} (W : WriterRequire
         ∙ ap (λ (y : Option Node). sets out₂ (at + 1 + f + f) (flatField s y)) hc
         ∙ ap (λ (o : List ℕ). sets o (at + 1 + f + f) C) (o₂ ∙ ap (λ (y : Option Node). sets out₁ (at + 1 + f) (flatField s y)) hb ∙ ap (λ (o : List ℕ). sets o (at + 1 + f) B) (o₁ ∙ ap (λ (y : Option Node). sets (set out at (getD (s .bytes) (q + 1 + s .width) 0)) (at + 1) (flatField s y)) ha))
         ∙ four-stores out A B C at (getD (s .bytes) (q + 1 + s .width) 0) f la lb
-        ∙ ap (λ (k : ℕ). sets out at (k ∷ (A ++ B ++ C))) (class-is hq)
+        ∙ ap (λ (k : ℕ). sets out at (k ∷ (A ++ B ++ C))) (class-is h₇ (W .elements) e le hq)

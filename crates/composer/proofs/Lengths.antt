@@ -24,7 +24,7 @@ use Rattle.flat_names.proofs.Lengths.{flat-name-bytes}
 
 module _ (s : Recipe) (two : 2 ≤ s .width) (h₃ : fault₃ s ≡ none) where
   module _ (h₇ : fault₇ s ≡ none) where
-    field-bytes : (o : Option Node) → ((x : Node) → o ≡ some x → In x (treeElements s)) → length (flatField s o) ≡ flatWidth (s .width)
+    pub field-bytes : (o : Option Node) → ((x : Node) → o ≡ some x → In x (treeElements s)) → length (flatField s o) ≡ flatWidth (s .width)
     unfolding flatField
     field-bytes none h = padded-length (flatWidth (s .width)) [] (omega arith)
     field-bytes (some x) h = padded-length (flatWidth (s .width)) (flatName s x) (flat-name-bytes s two h₃ h₇ x (h x refl))

@@ -1,4 +1,4 @@
--- The loops over the elements of the tree: survivors from the element of number e on, and their records.
+-- The loops over the elements of the tree: those that pass a test, from the element of number e on, and their records.
 -- Assumes nothing.
 use Prim.Native.Nat.{_*_, _+_, _<_, _≤_, suc, ℕ}
 use lib.ListN.{drop, drop-of-length-le, getD, length, length-append}
@@ -15,68 +15,72 @@ use Rattle.recipe.specs.Records.{Recipe}
 use Rattle.tree.specs.Tree.{Node, node, treeElements}
 use Rattle.names.proofs.Stores.{sets-append}
 use Rattle.elements.proofs.Elements.{elements-few}
-use Rattle.marks.specs.Marks.{isGone, survivors}
+use Rattle.marks.specs.Marks.{isGone}
 use Rattle.composer.specs.Writing.{FatesRequires, elementAt}
 use Rattle.composer.proofs.ByNumber.{element-in, element-number}
 
 -- those that pass a test, from the first on
 module _ {A : Type 0} (t : A → Bool) (x : A) (xs : List A) where
-  keep-on : t x ≡ true → keep t (x ∷ xs) ≡ x ∷ keep t xs
+  pub keep-on : t x ≡ true → keep t (x ∷ xs) ≡ x ∷ keep t xs
   keep-on e = rw (e, keep)
 
-  keep-off : t x ≡ false → keep t (x ∷ xs) ≡ keep t xs
+  pub keep-off : t x ≡ false → keep t (x ∷ xs) ≡ keep t xs
   keep-off e = rw (e, keep)
 
-module _ (s : Recipe) where
-  abbrev survives : Node → Bool
-  survives x = not (isGone s x)
+-- the test of the flat table
+abbrev pub survives : Recipe → Node → Bool
+survives s x = not (isGone s x)
 
-  -- the survivors from the element of number e on
+module _ (s : Recipe) (t : Node → Bool) where
+  -- those that pass the test, from the element of number e on
   unfoldable pub from : ℕ → List Node
-  from e = keep survives (drop e (treeElements s))
+  from e = keep t (drop e (treeElements s))
 
-  pub from-start : from 0 ≡ survivors s
-  unfolding from survivors
+  abbrev pub all : List Node
+  all = keep t (treeElements s)
+
+  from-start : from 0 ≡ all
+  unfolding from
   from-start = refl
 
   module _ (e : ℕ) where
-    pub from-end : length (treeElements s) ≤ e → from e ≡ []
+    from-end : length (treeElements s) ≤ e → from e ≡ []
     unfolding from
     from-end h = rw (drop-of-length-le (treeElements s) h)
 
     module _ (l : e < length (treeElements s)) where
-      pub from-gone : isGone s (elementAt s e) ≡ true → from e ≡ from (e + 1)
+      from-off : t (elementAt s e) ≡ false → from e ≡ from (e + 1)
       unfolding from elementAt
-      from-gone t = rw (add-one, drop-cons (treeElements s) e (node [] 0) l) (keep-off survives (getD (treeElements s) e (node [] 0)) (drop (suc e) (treeElements s)) (ap not t))
+      from-off k = rw (add-one, drop-cons (treeElements s) e (node [] 0) l) (keep-off t (getD (treeElements s) e (node [] 0)) (drop (suc e) (treeElements s)) k)
 
-      pub from-survivor : isGone s (elementAt s e) ≡ false → from e ≡ elementAt s e ∷ from (e + 1)
+      from-on : t (elementAt s e) ≡ true → from e ≡ elementAt s e ∷ from (e + 1)
       unfolding from elementAt
-      from-survivor t = rw (add-one, drop-cons (treeElements s) e (node [] 0) l) (keep-on survives (getD (treeElements s) e (node [] 0)) (drop (suc e) (treeElements s)) (ap not t))
+      from-on k = rw (add-one, drop-cons (treeElements s) e (node [] 0) l) (keep-on t (getD (treeElements s) e (node [] 0)) (drop (suc e) (treeElements s)) k)
 
   -- ---- how many there are
   pub record CountLoop (total e n : ℕ) : Type 0 where
     pub low : e ≤ total
     pub few : n ≤ e
-    pub rest : n + length (from e) ≡ length (survivors s)
+    pub rest : n + length (from e) ≡ length all
 
   pub count-start : (total : ℕ) → CountLoop total 0 0
   count-start total = record { low = omega arith; few = omega arith; rest = rw from-start (omega arith) }
 
-  module _ {total e n : ℕ} (c : CountLoop total e n) (t : total ≡ length (treeElements s)) where
-    pub count-end : total ≤ e → n ≡ length (survivors s)
-    count-end h = omega (arith, c .rest, ap length (from-end e (omega (arith, t))))
+  module _ {total e n : ℕ} (c : CountLoop total e n) (u : total ≡ length (treeElements s)) where
+    pub count-end : total ≤ e → n ≡ length all
+    count-end h = omega (arith, c .rest, ap length (from-end e (omega (arith, u))))
 
     module _ (l : e < total) where
-      pub count-gone : isGone s (elementAt s e) ≡ true → CountLoop total (e + 1) n
-      count-gone k = record { low = omega arith; few = omega (arith, c .few); rest = omega (arith, c .rest, ap length (from-gone e (omega (arith, t)) k)) }
+      pub count-off : t (elementAt s e) ≡ false → CountLoop total (e + 1) n
+      count-off k = record { low = omega arith; few = omega (arith, c .few); rest = omega (arith, c .rest, ap length (from-off e (omega (arith, u)) k)) }
 
-      pub count-survivor : isGone s (elementAt s e) ≡ false → CountLoop total (e + 1) (n + 1)
-      count-survivor k = record { low = omega arith; few = omega (arith, c .few); rest = omega (arith, c .rest, ap length (from-survivor e (omega (arith, t)) k)) }
+      pub count-on : t (elementAt s e) ≡ true → CountLoop total (e + 1) (n + 1)
+      count-on k = record { low = omega arith; few = omega (arith, c .few); rest = omega (arith, c .rest, ap length (from-on e (omega (arith, u)) k)) }
 
   -- ---- a record for each, whatever r gives, written one behind the other: storing those of e and behind it at `at` gives the whole table
   module _ (r : Node → List ℕ) where
     abbrev pub whole : List ℕ
-    whole = joined (map r (survivors s))
+    whole = joined (map r all)
 
     pub record WriteLoop (total : ℕ) (out₀ out : List ℕ) (e at : ℕ) : Type 0 where
       pub low : e ≤ total
@@ -87,29 +91,29 @@ module _ (s : Recipe) where
     pub write-start : (total : ℕ) (out : List ℕ) → length whole ≤ length out → WriteLoop total out out 0 0
     write-start total out h = record { low = omega arith; long = refl; room = rw from-start (omega arith); rest = rw from-start refl }
 
-    module _ {total : ℕ} {out₀ out : List ℕ} {e at : ℕ} (g : WriteLoop total out₀ out e at) (t : total ≡ length (treeElements s)) where
+    module _ {total : ℕ} {out₀ out : List ℕ} {e at : ℕ} (g : WriteLoop total out₀ out e at) (u : total ≡ length (treeElements s)) where
       pub write-end : total ≤ e → length whole ≤ length out₀ → out ≡ whole ++ drop (length whole) out₀
       write-end h k =
-          sym (ap (λ (l : List Node). sets out at (joined (map r l))) (from-end e (omega (arith, t))))
+          sym (ap (λ (l : List Node). sets out at (joined (map r l))) (from-end e (omega (arith, u))))
           ∙ g .rest
           ∙ sets-eq whole out₀ 0 (omega arith)
           ∙ ap (λ (k : ℕ). whole ++ drop k out₀) (zero-add (length whole))
 
       module _ (l : e < total) where
-        pub write-gone : isGone s (elementAt s e) ≡ true → WriteLoop total out₀ out (e + 1) at
-        write-gone k =
-            let f = from-gone e (omega (arith, t)) k in
+        pub write-off : t (elementAt s e) ≡ false → WriteLoop total out₀ out (e + 1) at
+        write-off k =
+            let f = from-off e (omega (arith, u)) k in
             record { low = omega arith; long = g .long; room = rw f at (g .room); rest = rw f at (g .rest) }
 
-        module _ (k : isGone s (elementAt s e) ≡ false) where
+        module _ (k : t (elementAt s e) ≡ true) where
           one-more : joined (map r (from e)) ≡ r (elementAt s e) ++ joined (map r (from (e + 1)))
-          one-more = ap (λ (x : List Node). joined (map r x)) (from-survivor e (omega (arith, t)) k)
+          one-more = ap (λ (x : List Node). joined (map r x)) (from-on e (omega (arith, u)) k)
 
           pub write-room : at + length (r (elementAt s e)) ≤ length out
           write-room = omega (arith, g .room, ap length one-more, length-append (r (elementAt s e)) (joined (map r (from (e + 1)))))
 
-          pub write-survivor : (n : ℕ) {out′ : List ℕ} → length (r (elementAt s e)) ≡ n → out′ ≡ sets out at (r (elementAt s e)) → WriteLoop total out₀ out′ (e + 1) (at + n)
-          write-survivor n {out′} m o = record {
+          pub write-on : (n : ℕ) {out′ : List ℕ} → length (r (elementAt s e)) ≡ n → out′ ≡ sets out at (r (elementAt s e)) → WriteLoop total out₀ out′ (e + 1) (at + n)
+          write-on n {out′} m o = record {
             low = omega arith;
             long = ap length o ∙ length-sets out at (r (elementAt s e)) ∙ g .long;
             room = omega (arith, g .room, ap length one-more, length-append (r (elementAt s e)) (joined (map r (from (e + 1)))), m, ap length o, length-sets out at (r (elementAt s e)));

@@ -1,5 +1,5 @@
 // Flattening: a recipe's answer, and its flat table, written from the rooms that composing fills.
-// Public calls, which require nothing: flatten; bandrolt_flatten, the same exported to C; flatten_and_check. For the floors above: field_width, NAME_WIDTH.
+// Public calls, which require nothing: flatten; bandrolt_flatten, the same exported to C; flatten_and_check. For the floors above: field_width, record_width, NAME_WIDTH, count_survivors, Site, site_at, put_field, write_table.
 ghost use mathlib.Core.Path.{_≡_};
 ghost use mathlib.Core.List.{_++_};
 ghost use Prim.Native.Nat.{_+_, _*_, _<_, _≤_};
@@ -46,7 +46,7 @@ pub fn field_width(w: usize) -> usize
 }
 
 // The bytes of its records.
-fn record_width(w: usize) -> usize
+pub fn record_width(w: usize) -> usize
     requires { ⌜ w ≤ 64 ⌝ }
     ensures { λ r. ⌜ r ≡ flatLength w ⌝ }
 {
@@ -54,7 +54,7 @@ fn record_width(w: usize) -> usize
 }
 
 // How many of the elements survive.
-fn count_survivors(s: &[u8], w: usize, el: &[u16], elems: usize) -> usize
+pub fn count_survivors(s: &[u8], w: usize, el: &[u16], elems: usize) -> usize
     requires { ⌜ FatesRequires (recipeAt w (now s)) (now el) elems ⌝ }
     ensures { λ r. ⌜ r ≡ length (survivors (recipeAt w (now (s .entry)))) ⌝ }
 {
@@ -71,12 +71,11 @@ fn count_survivors(s: &[u8], w: usize, el: &[u16], elems: usize) -> usize
     n
 }
 
-// Where the end of the chain from the reference of the element of number e is.
-fn reference_site(el: &[u16], e: usize) -> Site
-    requires { ⌜ (e < 1024) × ((5 * e + 4 < length (now el)) × (5 * getD (now el) (5 * e + 4) 0 ≤ length (now el))) ⌝ }
-    ensures { λ r. ⌜ SiteAt (now (el .entry)) (getD (now (el .entry)) (5 * e + 4) 0) (r .inst) (r .record) ⌝ }
+// Where the element of number z - 1 is, by its row; nowhere where z is 0.
+pub fn site_at(el: &[u16], z: usize) -> Site
+    requires { ⌜ (z < 65536) × (5 * z ≤ length (now el)) ⌝ }
+    ensures { λ r. ⌜ SiteAt (now (el .entry)) z (r .inst) (r .record) × ((r .inst < 65536) × (r .record < 65536)) ⌝ }
 {
-    let z = cell(el, 5 * e, references::REFERENCE_END);
     if z == 0 {
         return Site { inst: 0, record: 0 };
     }
@@ -85,8 +84,17 @@ fn reference_site(el: &[u16], e: usize) -> Site
     Site { inst: i, record: m }
 }
 
+// Where the end of the chain from the reference of the element of number e is.
+fn reference_site(el: &[u16], e: usize) -> Site
+    requires { ⌜ (e < 1024) × ((5 * e + 4 < length (now el)) × (5 * getD (now el) (5 * e + 4) 0 ≤ length (now el))) ⌝ }
+    ensures { λ r. ⌜ SiteAt (now (el .entry)) (getD (now (el .entry)) (5 * e + 4) 0) (r .inst) (r .record) ⌝ }
+{
+    let z = cell(el, 5 * e, references::REFERENCE_END);
+    site_at(el, z)
+}
+
 // Writes the field of the flat name of the element of record m in instance i, or a blank where m is 0.
-fn put_field(
+pub fn put_field(
     s: &[u8],
     w: usize,
     pre: &[u8],
@@ -107,7 +115,7 @@ fn put_field(
 }
 
 // Writes the flat table: the record of each survivor, in tree order.
-fn write_table(
+pub fn write_table(
     s: &[u8],
     w: usize,
     t: &[u16],

@@ -25,8 +25,6 @@ use shadow::cell;
 use tree::FIRST_ELEMENT;
 use tree::NEXT_SAME;
 
-// The cells of a kind 8: the elements that its factors name.
-
 // One more than the number of the end of the chain from the element at q, in the instance whose first element has the number f; 0 where q is 0.
 pub fn factor_end(s: &[u8], w: usize, t: &[u16], el: &[u16], f: usize, q: usize) -> usize
     requires { ⌜ ChainsRequires (recipeAt w (now s)) (now t) (now el) × FactorAt (recipeAt w (now s)) f q ⌝ }

@@ -21,7 +21,7 @@ use Rattle.tree.specs.Tree.{Node, Submodels, definitionAt, definitionBel
 use Rattle.tree.proofs.Instances.{at-most-four, elements-most}
 
 -- ---- runs of numbers
-run-append : (k a b : ℕ) → run k (a + b) ≡ run k a ++ run (k + a) b
+pub run-append : (k a b : ℕ) → run k (a + b) ≡ run k a ++ run (k + a) b
 run-append k zero b = rw (zero-add, add-zero)
 run-append k (suc a) b = rw (suc-add, run-append (suc k) a b, add-suc, suc-add)
 

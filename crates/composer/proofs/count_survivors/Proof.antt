@@ -3,18 +3,21 @@
 use borrow.Author.Needs.{needs}
 use Prim.Native.Nat.{_-_}
 use native.Mathlib.Omega.{arith}
-use Rattle.composer.proofs.Writing.{CountLoop, count-end, count-gone, count-start, count-survivor, fate-room, fates-few, gone-at, survives-at}
+use mathlib.Core.Bool.{not}
+use mathlib.Core.Path.{ap}
+use Rattle.marks.specs.Marks.{survivors}
+use Rattle.composer.proofs.Writing.{CountLoop, count-end, count-off, count-start, count-on, fate-room, fates-few, gone-at, survives, survives-at}
 use Rattle.composer.proofs.count_survivors.Statement.{statement}
 use Rattle.composer.proofs.count_survivors.Tie as tie
 
 abbrev Inv-loop : tie.InvT-loop
-Inv-loop s w el elems e₀ n₀ e n = CountLoop (record { width = w; bytes = s }) elems e n
+Inv-loop s w el elems e₀ n₀ e n = CountLoop (record { width = w; bytes = s }) (survives (record { width = w; bytes = s })) elems e n
 
 abbrev μ-loop : tie.MeasureT-loop
 μ-loop s w el elems e₀ n₀ e n = elems - e
 
 loop-holds : tie.Need-loop-holds Inv-loop μ-loop
-loop-holds c = let at-start = c .before .before in count-start (record { width = at-start .args .w; bytes = at-start .args .s .now }) (at-start .args .elems)
+loop-holds c = let at-start = c .before .before in count-start (record { width = at-start .args .w; bytes = at-start .args .s .now }) (survives (record { width = at-start .args .w; bytes = at-start .args .s .now })) (at-start .args .elems)
 
 mul-cell : tie.Need-mul-cell Inv-loop μ-loop
 mul-cell c = omega (arith, fates-few (c .before .before .before .before .pre))
@@ -31,7 +34,7 @@ add-e c = omega (arith, fates-few (c .before .before .before .before .before .be
 loop-again : tie.Need-loop-again Inv-loop μ-loop
 loop-again c =
     let at-cell = c .before in let at-loop-test = at-cell .before in let at-loop = at-loop-test .before in let at-start = at-loop .before .before .before in
-    count-survivor (record { width = at-start .args .w; bytes = at-start .args .s .now }) (at-loop .loop .inv) (at-start .pre .count) (at-loop-test .loop-test .taken) (survives-at (at-start .pre) (at-loop-test .loop-test .taken) (at-cell .cell .ensures .0) (c .if1 .taken))
+    count-on (record { width = at-start .args .w; bytes = at-start .args .s .now }) (survives (record { width = at-start .args .w; bytes = at-start .args .s .now })) (at-loop .loop .inv) (at-start .pre .count) (at-loop-test .loop-test .taken) (ap not (survives-at (at-start .pre) (at-loop-test .loop-test .taken) (at-cell .cell .ensures .0) (c .if1 .taken)))
 
 add-e-2 : tie.Need-add-e-2 Inv-loop μ-loop
 add-e-2 c = omega (arith, fates-few (c .before .before .before .before .before .before .pre))
@@ -39,12 +42,13 @@ add-e-2 c = omega (arith, fates-few (c .before .before .before .before .before .
 loop-again-2 : tie.Need-loop-again-2 Inv-loop μ-loop
 loop-again-2 c =
     let at-cell = c .before in let at-loop-test = at-cell .before in let at-loop = at-loop-test .before in let at-start = at-loop .before .before .before in
-    count-gone (record { width = at-start .args .w; bytes = at-start .args .s .now }) (at-loop .loop .inv) (at-start .pre .count) (at-loop-test .loop-test .taken) (gone-at (at-start .pre) (at-loop-test .loop-test .taken) (at-cell .cell .ensures .0) (c .if1 .left))
+    count-off (record { width = at-start .args .w; bytes = at-start .args .s .now }) (survives (record { width = at-start .args .w; bytes = at-start .args .s .now })) (at-loop .loop .inv) (at-start .pre .count) (at-loop-test .loop-test .taken) (ap not (gone-at (at-start .pre) (at-loop-test .loop-test .taken) (at-cell .cell .ensures .0) (c .if1 .left)))
 
 returns : tie.Need-returns Inv-loop μ-loop
+unfolding survivors
 returns c =
     let at-loop = c .before in let at-start = at-loop .before .before .before in
-    count-end (record { width = at-start .args .w; bytes = at-start .args .s .now }) (at-loop .loop .inv) (at-start .pre .count) (c .loop-test .left)
+    count-end (record { width = at-start .args .w; bytes = at-start .args .s .now }) (survives (record { width = at-start .args .w; bytes = at-start .args .s .now })) (at-loop .loop .inv) (at-start .pre .count) (c .loop-test .left)
 
 pub count-survivors-spec : {M : Type 1} → statement M
 count-survivors-spec = tie.close (tie.spec Inv-loop μ-loop loop-holds mul-cell cell-requires add-n add-e (λ c. search needs)
