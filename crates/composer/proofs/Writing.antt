@@ -10,6 +10,7 @@ use native.Mathlib.Nat.{zero-add}
 use native.Mathlib.Numerals.{add-one}
 use native.Mathlib.Omega.{arith}
 use Rattle.names.specs.Lists.{joined, keep}
+use Rattle.names.proofs.Lists.{keep-off, keep-on}
 use Rattle.names.proofs.Tests.{by-cases}
 use Rattle.recipe.specs.Records.{Recipe}
 use Rattle.tree.specs.Tree.{Node, node, treeElements}
@@ -18,14 +19,6 @@ use Rattle.elements.proofs.Elements.{elements-few}
 use Rattle.marks.specs.Marks.{isGone}
 use Rattle.composer.specs.Writing.{FatesRequires, elementAt}
 use Rattle.composer.proofs.ByNumber.{element-in, element-number}
-
--- those that pass a test, from the first on
-module _ {A : Type 0} (t : A → Bool) (x : A) (xs : List A) where
-  pub keep-on : t x ≡ true → keep t (x ∷ xs) ≡ x ∷ keep t xs
-  keep-on e = rw (e, keep)
-
-  pub keep-off : t x ≡ false → keep t (x ∷ xs) ≡ keep t xs
-  keep-off e = rw (e, keep)
 
 -- the test of the flat table
 abbrev pub survives : Recipe → Node → Bool

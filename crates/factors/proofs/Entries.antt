@@ -5,16 +5,15 @@ use Prim.Native.Nat.{ℕ, _+_, _*_, _≤_, _<_}
 use native.Mathlib.Omega.{arith}
 use native.Mathlib.Nat.{add-zero}
 use native.Mathlib.Numerals.{add-one}
-use mathlib.Core.Bool.{Bool, false, not, _&&_, _||_}
+use mathlib.Core.Bool.{false, not, _||_}
 use mathlib.Core.Option.{Option, none, some}
-use mathlib.Core.List.{List, [], _∷_, _++_, map, append-nil}
+use mathlib.Core.List.{List, [], _++_, map, append-nil}
 use lib.Dec.{eqb}
 use lib.ListN.{length, getD, set, take, drop, length-append}
 use lib.Seq.{sets, sets-eq, length-sets, take-at}
 use Rattle.names.specs.Lists.{In, joined, keep, padded}
-use Rattle.names.proofs.Lists.{in-keep, joined-length}
+use Rattle.names.proofs.Lists.{in-keep, joined-length, keep-keep}
 use Rattle.names.proofs.Stores.{sets-append}
-use Rattle.names.proofs.Tests.{both, by-cases}
 use Rattle.flat_table.specs.Table.{flatWidth}
 use Rattle.recipe.specs.Reading.{fault₃, fault₅}
 use Rattle.recipe.specs.Records.{Recipe, extentField, timeField}
@@ -32,29 +31,13 @@ use Rattle.composer.specs.Writing.{SiteInTree, elementAt, siteOf}
 use Rattle.composer.proofs.ByNumber.{element-in, instance-low, path-is, site-is}
 use Rattle.composer.proofs.Fields.{class-inside, class-is}
 use Rattle.composer.proofs.Lengths.{field-bytes, name-field}
-use Rattle.composer.proofs.Writing.{fate-room, fates-few, gone-at, keep-off, keep-on, survives-at}
+use Rattle.composer.proofs.Writing.{fate-room, fates-few, gone-at, survives-at}
 use Rattle.factors.specs.Companion.{companion, companionRecord, entryLength, factorAt, factorFields, isRated, rated}
 use Rattle.factors.specs.Sites.{CompanionRequires, EntryRequires, RowFor, RowRequires, SiteIs, factorField, fieldsTo, isEntry}
 use Rattle.factors.proofs.Paths.{factor-in, field-in}
 use Rattle.factors.proofs.Sites.{site-in}
 
 -- ---- who has an entry
-module _ {A : Type 0} (t u : A → Bool) where
-  keep-keep : (xs : List A) → keep t (keep u xs) ≡ keep (λ x. u x && t x) xs
-  keep-keep [] = refl
-  keep-keep (x ∷ xs) =
-      let v : A → Bool = λ y. u y && t y in
-      by-cases (u x)
-      (λ a.
-      by-cases (t x)
-      (λ b.
-      ap (keep t) (keep-on u x xs a)
-      ∙ keep-on t x (keep u xs) b
-      ∙ ap (λ (ys : List A). x ∷ ys) (keep-keep xs)
-      ∙ sym (keep-on v x xs (both a b)))
-      (λ b. ap (keep t) (keep-on u x xs a) ∙ keep-off t x (keep u xs) b ∙ keep-keep xs ∙ sym (keep-off v x xs (rw (a, b)))))
-      (λ a. ap (keep t) (keep-off u x xs a) ∙ keep-keep xs ∙ sym (keep-off v x xs (rw a)))
-
 pub rated-are : (s : Recipe) → keep (isEntry s) (treeElements s) ≡ rated s
 unfolding isEntry rated survivors
 rated-are s = sym (keep-keep (isRated s) (λ x. not (isGone s x)) (treeElements s))

@@ -4,18 +4,16 @@ use mathlib.Core.Path.{_≡_, refl, sym, ap, _∙_}
 use mathlib.Core.Logic.{inl, inr, ⊎-elim}
 use Prim.Native.Nat.{ℕ, zero, suc, _+_, _*_, _≤_, _<_}
 use native.Mathlib.Omega.{arith}
-use native.Mathlib.Nat.{suc-mul, zero-mul, add-comm}
 use mathlib.Core.Bool.{Bool, true, false, not, _&&_}
-use mathlib.Core.Option.{none, some, Option·map}
+use mathlib.Core.Option.{Option, none, some, Option·map}
 use mathlib.Core.List.{List, [], _∷_, _++_, map}
 use lib.Dec.{eqb, ltb}
 use lib.ListN.{getD, length, take, drop}
-use lib.Seq.{drop-at, drop-drop, take-at}
 use borrow.Author.Tests.{eq-eqb, eqb-true, ltb-true, not-false, not-true}
 use Rattle.names.specs.Lists.{In, any, holds, joined}
 use Rattle.names.specs.Names.{isBlank}
-use Rattle.names.proofs.Lists.{getD-in, in-append, in-map, none-first, not-any}
-use Rattle.names.proofs.ListOrder.{Earlier, keep-earlier}
+use Rattle.names.proofs.Lists.{getD-in, in-append, in-map, none-first, not-any, piece}
+use Rattle.names.proofs.ListOrder.{at-earlier, keep-earlier}
 use Rattle.names.proofs.Tests.{and-left, and-none, and-right, by-cases, by-option, not-both, or-none-left, or-none-right, some-map, three}
 use Rattle.flat_table.specs.Table.{flatWidth}
 use Rattle.recipe.specs.Definitions.{elementIn, factorsOf}
@@ -42,32 +40,6 @@ use Rattle.factors.specs.Entries.{FactorNamed, entryField, entryOf, rate
 use Rattle.factors.proofs.Entries.{entry-bytes, rated-tree}
 use Rattle.factors.proofs.Paths.{around-in, around-submodel, factor-in, factors-node, named-tree}
 
--- ---- lists of one length, one behind the other
-piece : (n : ℕ) (ls : List (List ℕ)) (k : ℕ) → ((l : List ℕ) → In l ls → length l ≡ n) → k < length ls → take n (drop (k * n) (joined ls)) ≡ getD ls k []
-piece n [] k h l = absurd (omega arith)
-piece n (x ∷ ls) zero h l = rw (zero-mul n) (take-at x (joined ls) n (h x (inl refl)))
-piece n (x ∷ ls) (suc k) h l =
-    let e : suc k * n ≡ n + k * n = suc-mul k n ∙ add-comm (k * n) n in
-    ap (λ (j : ℕ). take n (drop j (x ++ joined ls))) e
-    ∙ ap (take n) (sym (drop-drop (k * n) n (x ++ joined ls)) ∙ ap (drop (k * n)) (drop-at x (joined ls) n (h x (inl refl))))
-    ∙ piece n ls k (λ y i. h y (inr i)) (omega arith)
-
-map-at : {A B : Type 0} (f : A → B) (xs : List A) (i : ℕ) (a : A) (b : B) → i < length xs → getD (map f xs) i b ≡ f (getD xs i a)
-map-at f [] i a b l = absurd (omega arith)
-map-at f (x ∷ xs) zero a b l = refl
-map-at f (x ∷ xs) (suc i) a b l = map-at f xs i a b (omega arith)
-
-map-length : {A B : Type 0} (f : A → B) (xs : List A) → length (map f xs) ≡ length xs
-map-length f [] = refl
-map-length f (x ∷ xs) = ap suc (map-length f xs)
-
--- of two at different positions one is earlier
-at-earlier : {A : Type 0} (xs : List A) (i j : ℕ) (d : A) → i < j → j < length xs → Earlier (getD xs i d) (getD xs j d) xs
-at-earlier [] i j d h l = absurd (omega arith)
-at-earlier (x ∷ xs) i zero d h l = absurd (omega arith)
-at-earlier (x ∷ xs) zero (suc j) d h l = inl (refl, getD-in xs j d (omega arith))
-at-earlier (x ∷ xs) (suc i) (suc j) d h l = inr (at-earlier xs i j d (omega arith) (omega arith))
-
 module _ (s : Recipe) (two : 2 ≤ s .width) (h₃ : fault₃ s ≡ none) (h₅ : fault₅ s ≡ none) (h₇ : fault₇ s ≡ none) where
   module _ (i : ℕ) (l : i < length (rated s)) where
     x : Node
@@ -84,50 +56,43 @@ module _ (s : Recipe) (two : 2 ≤ s .width) (h₃ : fault₃ s ≡ none) (h₅ 
     pub entry-at : entryOf (s .width) (companion s) i ≡ companionRecord s (ratedAt s i)
     unfolding companion
     entry-at =
-        piece (entryLength (s .width)) (map (companionRecord s) (rated s)) i
-        (λ r k.
-        let y = in-map (companionRecord s) (rated s) r k in
-        ap length (y .2) ∙ entry-bytes s two h₃ h₅ h₇ (y .0) (survivor s (y .0) (rated-tree s (y .0) (y .1)) .0))
-        (omega (arith, map-length (companionRecord s) (rated s)))
-        ∙ map-at (companionRecord s) (rated s) i (node [] 0) [] l
+        piece (companionRecord s) (entryLength (s .width)) (rated s) i (node [] 0)
+        (λ y k. entry-bytes s two h₃ h₅ h₇ y (survivor s y (rated-tree s y k) .0)) l
 
-    -- its nine fields
-    fields : List (List ℕ)
-    fields =
-        flatField s (some x)
-        ∷ (map (λ k. flatField s (factorAt s timeField (x .path) k)) (run 1 4) ++ map (λ k. flatField s (factorAt s extentField (x .path) k)) (run 1 4))
+    -- its name and its eight factors
+    factors : (Recipe → ℕ → List ℕ) → List (Option Node)
+    factors field = map (factorAt s field (x .path)) (run 1 4)
 
-    fields-are : drop 1 (companionRecord s x) ≡ joined fields
-    unfolding companionRecord factorFields fields mostDepth
-    fields-are =
-        ap (λ (r : List ℕ). flatField s (some x) ++ r)
-        (sym (joined-append (map (λ k. flatField s (factorAt s timeField (x .path) k)) (run 1 4)) (map (λ k. flatField s (factorAt s extentField (x .path) k)) (run 1 4))))
+    nine : List (Option Node)
+    nine = some x ∷ (factors timeField ++ factors extentField)
 
-    each : (l : List ℕ) → In l fields → length l ≡ flatWidth (s .width)
-    unfolding fields
-    each f (inl e) = ap length e ∙ name-field s two h₃ h₇ h₅ x tree
-    each f (inr k) =
-        let width : (field : Recipe → ℕ → List ℕ) (d : ℕ) → length (flatField s (factorAt s field (x .path) d)) ≡ flatWidth (s .width) =
-        λ field d. field-bytes s two h₃ h₇ (factorAt s field (x .path) d) (λ y n. factor-in s h₅ h₇ (x .path) (in-tree s x tree .0) field d y n) in
-        ⊎-elim
-        (λ (m : In f (map (λ k. flatField s (factorAt s timeField (x .path) k)) (run 1 4))).
-        let y = in-map (λ k. flatField s (factorAt s timeField (x .path) k)) (run 1 4) f m in ap length (y .2) ∙ width timeField (y .0))
-        (λ (m : In f (map (λ k. flatField s (factorAt s extentField (x .path) k)) (run 1 4))).
-        let y = in-map (λ k. flatField s (factorAt s extentField (x .path) k)) (run 1 4) f m in ap length (y .2) ∙ width extentField (y .0))
-        (in-append (map (λ k. flatField s (factorAt s timeField (x .path) k)) (run 1 4)) (map (λ k. flatField s (factorAt s extentField (x .path) k)) (run 1 4)) f k)
+    nine-are : drop 1 (companionRecord s x) ≡ joined (map (flatField s) nine)
+    unfolding companionRecord factorFields factors nine mostDepth
+    nine-are = ap (λ (r : List ℕ). flatField s (some x) ++ r) (sym (joined-append (map (flatField s) (factors timeField)) (map (flatField s) (factors extentField))))
 
-    field-at : (k : ℕ) → k < 9 → entryField (s .width) (companion s) i k ≡ getD fields k []
-    unfolding fields x
+    each-factor : (field : Recipe → ℕ → List ℕ) (o : Option Node) → In o (factors field) → length (flatField s o) ≡ flatWidth (s .width)
+    unfolding factors
+    each-factor field o i =
+        let d = in-map (factorAt s field (x .path)) (run 1 4) o i in
+        field-bytes s two h₃ h₇ o (λ y n. factor-in s h₅ h₇ (x .path) (in-tree s x tree .0) field (d .0) y (sym (d .2) ∙ n))
+
+    each : (o : Option Node) → In o nine → length (flatField s o) ≡ flatWidth (s .width)
+    unfolding nine
+    each o (inl e) = rw e (name-field s two h₃ h₇ h₅ x tree)
+    each o (inr k) = ⊎-elim (each-factor timeField o) (each-factor extentField o) (in-append (factors timeField) (factors extentField) o k)
+
+    field-at : (k : ℕ) → k < 9 → entryField (s .width) (companion s) i k ≡ flatField s (getD nine k none)
+    unfolding factors nine x
     field-at k m =
-        ap (λ (r : List ℕ). take (flatWidth (s .width)) (drop (k * flatWidth (s .width)) r)) (ap (drop 1) entry-at ∙ fields-are)
-        ∙ piece (flatWidth (s .width)) fields k each (omega arith)
+        ap (λ (r : List ℕ). take (flatWidth (s .width)) (drop (k * flatWidth (s .width)) r)) (ap (drop 1) entry-at ∙ nine-are)
+        ∙ piece (flatField s) (flatWidth (s .width)) nine k none each (omega arith)
 
     pub name-at : entryField (s .width) (companion s) i 0 ≡ flatField s (some (ratedAt s i))
-    unfolding fields x
+    unfolding factors nine x
     name-at = field-at 0 (omega arith)
 
     pub time-at : (k : ℕ) → k < 4 → entryField (s .width) (companion s) i (suc k) ≡ flatField s (factorAt s timeField (ratedAt s i .path) (suc k))
-    unfolding fields x
+    unfolding factors nine x
     time-at zero m = field-at 1 (omega arith)
     time-at (suc zero) m = field-at 2 (omega arith)
     time-at (suc (suc zero)) m = field-at 3 (omega arith)
@@ -135,7 +100,7 @@ module _ (s : Recipe) (two : 2 ≤ s .width) (h₃ : fault₃ s ≡ none) (h₅ 
     time-at (suc (suc (suc (suc k)))) m = absurd (omega arith)
 
     pub extent-at : (k : ℕ) → k < 4 → entryField (s .width) (companion s) i (4 + suc k) ≡ flatField s (factorAt s extentField (ratedAt s i .path) (suc k))
-    unfolding fields x
+    unfolding factors nine x
     extent-at zero m = field-at 5 (omega arith)
     extent-at (suc zero) m = field-at 6 (omega arith)
     extent-at (suc (suc zero)) m = field-at 7 (omega arith)

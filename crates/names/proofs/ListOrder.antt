@@ -5,11 +5,12 @@ use mathlib.Core.Logic.{_⊎_, inl, inr, ⊎-elim}
 use mathlib.Core.Bool.{Bool, true, false}
 use mathlib.Core.Option.{some}
 use mathlib.Core.List.{List, [], _∷_, _++_, map}
-use Prim.Native.Nat.{ℕ, suc, _≤_, _<_}
+use Prim.Native.Nat.{ℕ, zero, suc, _≤_, _<_}
+use lib.ListN.{getD, length}
 use native.Mathlib.Omega.{arith}
 use Rattle.names.specs.Lists.{In, keep, first, lastOr, joined, Pointwise}
 use Rattle.names.proofs.Tests.{by-cases, the-some}
-use Rattle.names.proofs.Lists.{in-keep, keep-in, in-append, append-left, in-joined, in-map, map-in, empty}
+use Rattle.names.proofs.Lists.{in-keep, keep-in, in-append, append-left, in-joined, in-map, map-in, empty, getD-in}
 
 -- ---- the order of a list
 module _ {A : Type 0} where
@@ -186,3 +187,10 @@ module _ {A : Type 0} (R : ℕ → A → Type 0) where
       let r = pointwise-right ps xs y (z .1) (h .1) in (p, r .0, inl (refl, r .1), rw (h .0) (z .0), r .2)
   earlier-pointwise (p ∷ ps) (k ∷ xs) x y z (inr e) =
       let r = earlier-pointwise ps xs x y (z .1) e in (r .0, r .1, inr (r .2), r .3, r .4)
+
+-- of two at different positions one is earlier
+pub at-earlier : {A : Type 0} (xs : List A) (i j : ℕ) (d : A) → i < j → j < length xs → Earlier (getD xs i d) (getD xs j d) xs
+at-earlier [] i j d h l = absurd (omega arith)
+at-earlier (x ∷ xs) i zero d h l = absurd (omega arith)
+at-earlier (x ∷ xs) zero (suc j) d h l = inl (refl, getD-in xs j d (omega arith))
+at-earlier (x ∷ xs) (suc i) (suc j) d h l = inr (at-earlier xs i j d (omega arith) (omega arith))

@@ -6,14 +6,14 @@ use mathlib.Core.Option.{none, some}
 use mathlib.Core.List.{List, [], _∷_, _++_, map}
 use Prim.Native.Nat.{ℕ, zero, suc, _+_, _*_, _≤_, _<_}
 use native.Mathlib.Omega.{arith}
-use native.Mathlib.Nat.{mul-zero, mul-suc}
+use native.Mathlib.Nat.{add-comm, mul-zero, mul-suc, suc-mul, zero-mul}
 use native.Mathlib.Numerals.{add-one}
 use lib.ListN.{length, take, drop, getD, replicate, length-append, length-replicate}
-use lib.Seq.{drop-cons}
+use lib.Seq.{drop-at, drop-cons, drop-drop, take-at}
 use lib.Dec.{eqb}
 use borrow.Author.Tests.{eq-eqb, ne-eqb, eqb-true}
 use Rattle.names.specs.Lists.{In, keep, keepWhile, any, every, first, lastOr, joined, isSome, same, begins, padded, among}
-use Rattle.names.proofs.Tests.{by-cases, not-both, and-left, and-right, not-none, the-some}
+use Rattle.names.proofs.Tests.{both, by-cases, not-both, and-left, and-right, not-none, the-some}
 
 module _ {A : Type 0} where
   -- what is kept is in the list and passes the test
@@ -363,3 +363,40 @@ first-keep t u (x ∷ xs) =
     by-cases (u x)
     (λ e. by-cases (t x) (λ h. rw (e, keep, first, h, first)) (λ h. rw (e, keep, first, h, first) (first-keep t u xs)))
     (λ e. rw (e, keep, first) (first-keep t u xs))
+
+-- those that pass a test, from the first on
+module _ {A : Type 0} (t : A → Bool) (x : A) (xs : List A) where
+  pub keep-on : t x ≡ true → keep t (x ∷ xs) ≡ x ∷ keep t xs
+  keep-on e = rw (e, keep)
+
+  pub keep-off : t x ≡ false → keep t (x ∷ xs) ≡ keep t xs
+  keep-off e = rw (e, keep)
+
+-- those that pass one test and another
+module _ {A : Type 0} (t u : A → Bool) where
+  pub keep-keep : (xs : List A) → keep t (keep u xs) ≡ keep (λ x. u x && t x) xs
+  keep-keep [] = refl
+  keep-keep (x ∷ xs) =
+      let v : A → Bool = λ y. u y && t y in
+      by-cases (u x)
+      (λ a.
+      by-cases (t x)
+      (λ b.
+      ap (keep t) (keep-on u x xs a)
+      ∙ keep-on t x (keep u xs) b
+      ∙ ap (λ (ys : List A). x ∷ ys) (keep-keep xs)
+      ∙ sym (keep-on v x xs (both a b)))
+      (λ b. ap (keep t) (keep-on u x xs a) ∙ keep-off t x (keep u xs) b ∙ keep-keep xs ∙ sym (keep-off v x xs (rw (a, b)))))
+      (λ a. ap (keep t) (keep-off u x xs a) ∙ keep-keep xs ∙ sym (keep-off v x xs (rw a)))
+
+-- lists of one length, one behind the other: number k of them
+pub piece : {A : Type 0} (f : A → List ℕ) (n : ℕ) (xs : List A) (k : ℕ) (d : A) → ((x : A) → In x xs → length (f x) ≡ n) → k < length xs
+    → take n (drop (k * n) (joined (map f xs))) ≡ f (getD xs k d)
+piece f n [] k d h l = absurd (omega arith)
+piece f n (x ∷ xs) zero d h l = rw (zero-mul n) (take-at (f x) (joined (map f xs)) n (h x (inl refl)))
+piece f n (x ∷ xs) (suc k) d h l =
+    let e : suc k * n ≡ n + k * n = suc-mul k n ∙ add-comm (k * n) n in
+    let rest = joined (map f xs) in
+    ap (λ (j : ℕ). take n (drop j (f x ++ rest))) e
+    ∙ ap (take n) (sym (drop-drop (k * n) n (f x ++ rest)) ∙ ap (drop (k * n)) (drop-at (f x) rest n (h x (inl refl))))
+    ∙ piece f n xs k d (λ y i. h y (inr i)) (omega arith)
