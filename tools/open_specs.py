@@ -15,7 +15,8 @@ CRATES = {
     "flat_names": ["Prefixes"],
     "composer": ["Flat", "Verdicts", "Printed"],
     "origins": ["Origins"],
-    "samples": ["Samples", "Walks"],
+    "factors": ["Companion"],
+    "samples": ["Samples", "Walks", "Companions"],
 }
 # What is defined by a type of the code: no proof by computation meets it.
 LEFT_OUT = {"fieldOf", "optionalOf"}

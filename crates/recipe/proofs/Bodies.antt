@@ -28,8 +28,8 @@ by-kind P p₁ p₂ p₃ p₄ p₅ p₆ p₇ p₈ (suc (suc (suc (suc (suc (suc 
 by-kind P p₁ p₂ p₃ p₄ p₅ p₆ p₇ p₈ (suc (suc (suc (suc (suc (suc (suc (suc zero)))))))) h = p₈
 by-kind P p₁ p₂ p₃ p₄ p₅ p₆ p₇ p₈ (suc (suc (suc (suc (suc (suc (suc (suc (suc k))))))))) h = absurd (false≢true h)
 
--- they are 1 to 7
-pub known-range : (k : ℕ) → leb 1 k && leb k 7 ≡ isKnown k
+-- they are 1 to 8
+pub known-range : (k : ℕ) → leb 1 k && leb k 8 ≡ isKnown k
 unfolding isKnown
 known-range zero = refl
 known-range (suc zero) = refl
@@ -41,7 +41,7 @@ known-range (suc (suc (suc (suc (suc (suc zero)))))) = refl
 known-range (suc (suc (suc (suc (suc (suc (suc zero))))))) = refl
 known-range (suc (suc (suc (suc (suc (suc (suc (suc zero)))))))) = refl
 known-range (suc (suc (suc (suc (suc (suc (suc (suc (suc k))))))))) =
-    rw (lt-leb (suc (suc (suc (suc (suc (suc (suc (suc (suc k))))))))) 7 (omega arith)) (and-false (leb 1 (suc (suc (suc (suc (suc (suc (suc (suc (suc k)))))))))))
+    rw (lt-leb (suc (suc (suc (suc (suc (suc (suc (suc (suc k))))))))) 8 (omega arith)) (and-false (leb 1 (suc (suc (suc (suc (suc (suc (suc (suc (suc k)))))))))))
 
 -- what holds of 5, 6 and 7 holds of every mark's kind
 pub by-mark : (P : ℕ → Type 0) → P 5 → P 6 → P 7 → (k : ℕ) → markKind k ≡ true → P k

@@ -78,9 +78,9 @@ abbrev pub hasParts : List Part → Bool
 hasParts [] = false
 hasParts (x ∷ xs) = true
 
--- column "Kind": the kinds of the table; the last, Paper 2's, is not read yet
+-- column "Kind": the kinds of the table
 unfoldable pub isKnown : ℕ → Bool
-isKnown k = hasParts (bodyOf k) && ltb k 8
+isKnown k = hasParts (bodyOf k)
 
 -- "Each record is one kind byte and a body whose length the kind fixes": the bytes of a record of kind k
 unfoldable pub recordLength : ℕ → ℕ → ℕ

@@ -123,7 +123,7 @@ pub fn record_length(k: u8, w: usize) -> usize
 fn is_known(k: u8) -> bool
     ensures { λ r. ⌜ r ≡ isKnown k ⌝ }
 {
-    (1 <= k) & (k <= 7)
+    (1 <= k) & (k <= 8)
 }
 
 // A port.

@@ -2,3 +2,4 @@
 pub mod Open
 pub mod Starred
 pub mod Walks
+pub mod Companions

@@ -1,4 +1,4 @@
--- `recipe::is_known` meets its contract: the kinds are 1 to 7.
+-- `recipe::is_known` meets its contract: the kinds are 1 to 8.
 -- Assumes nothing.
 use Rattle.recipe.proofs.Bodies.{known-range}
 use Rattle.recipe.proofs.is_known.Statement.{statement}
