@@ -3,7 +3,7 @@
 
 use std::{env, path::Path};
 
-const ARCHIVES: [&str; 3] = ["composer", "flat_table", "origins"];
+const ARCHIVES: [&str; 4] = ["composer", "flat_table", "origins", "factors"];
 
 fn main() {
     println!("cargo:rerun-if-env-changed=BANDROLT_LIB");

@@ -1,10 +1,11 @@
 //! The library's calls, made safe to call from Rust.
-//! This file uses nothing else of the harness: copy it into a program that links libcomposer.a, libflat_table.a and liborigins.a.
+//! This file uses nothing else of the harness: copy it into a program that links libcomposer.a, libflat_table.a,
+//! liborigins.a and libfactors.a.
 
 /// What flattening answers, laid out as `bandrolt_answer` in bandrolt.h.
 ///
 /// An accepted recipe has number 0, place 0, its number of flat records and their bytes; a refused one has
-/// its number, 1 to 13, the place of that, and both counts 0.
+/// its number, 1 to 13, 19 or 20, the place of that, and both counts 0.
 #[repr(C)]
 #[derive(Clone, Copy, Debug, PartialEq, Eq)]
 pub struct Answer {
@@ -12,6 +13,16 @@ pub struct Answer {
     pub place: u64,
     pub count: u64,
     pub bytes: u64,
+}
+
+/// What flattening with factors answers, laid out as `bandrolt_factors_answer` in bandrolt.h.
+///
+/// `flat` is as flattening's answer. An accepted recipe has its number of companion entries; a refused one has 0.
+#[repr(C)]
+#[derive(Clone, Copy, Debug, PartialEq, Eq)]
+pub struct FactorsAnswer {
+    pub flat: Answer,
+    pub entries: u64,
 }
 
 /// What the check answers, laid out as `bandrolt_table_answer` in bandrolt.h.
@@ -29,8 +40,8 @@ pub struct TableAnswer {
 /// What the walk back answers, laid out as `bandrolt_origin` in bandrolt.h.
 ///
 /// A survivor's flat name has number 0, place 0, the depth, so many offsets of submodel records from main downward,
-/// and the offset of the element record; the other offsets are 0. A refusal has its number, 1 to 12 or 18, the place
-/// of that, and all else 0.
+/// and the offset of the element record; the other offsets are 0. A refusal has its number, 1 to 12 or 18 to 20, the
+/// place of that, and all else 0.
 #[repr(C)]
 #[derive(Clone, Copy, Debug, Default, PartialEq, Eq)]
 pub struct Origin {
@@ -42,7 +53,7 @@ pub struct Origin {
 }
 
 mod c {
-    use super::{Answer, Origin, TableAnswer};
+    use super::{Answer, FactorsAnswer, Origin, TableAnswer};
 
     extern "C" {
         pub fn bandrolt_flatten(
@@ -51,6 +62,14 @@ mod c {
             table: *mut u8,
             room: usize,
         ) -> Answer;
+        pub fn bandrolt_flatten_with_factors(
+            recipe: *const u8,
+            length: usize,
+            table: *mut u8,
+            room: usize,
+            companion: *mut u8,
+            companion_room: usize,
+        ) -> FactorsAnswer;
         pub fn bandrolt_check_table(table: *const u8, length: usize) -> TableAnswer;
         pub fn bandrolt_walk_back(
             recipe: *const u8,
@@ -72,6 +91,28 @@ pub fn flatten(recipe: &[u8], table: &mut [u8]) -> Answer {
             recipe.len(),
             table.as_mut_ptr(),
             table.len(),
+        )
+    }
+}
+
+/// Flattens a recipe, of any bytes and any length, into the beginning of `table`, and the time and extent factors of its
+/// reactions and rate rules into that of `companion`, both of any length. A refusal leaves both as they are, and so does
+/// acceptance with the bytes after the flat records and after the entries.
+pub fn flatten_with_factors(
+    recipe: &[u8],
+    table: &mut [u8],
+    companion: &mut [u8],
+) -> FactorsAnswer {
+    // SAFETY: pointers and lengths are those of three slices that don't overlap; the call reads the first,
+    // writes within the others, and keeps none.
+    unsafe {
+        c::bandrolt_flatten_with_factors(
+            recipe.as_ptr(),
+            recipe.len(),
+            table.as_mut_ptr(),
+            table.len(),
+            companion.as_mut_ptr(),
+            companion.len(),
         )
     }
 }

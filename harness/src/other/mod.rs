@@ -6,7 +6,7 @@ pub mod recipe;
 pub mod rules;
 pub mod table;
 
-use crate::bandrolt::{Answer, Origin, TableAnswer};
+use crate::bandrolt::{Answer, FactorsAnswer, Origin, TableAnswer};
 use std::array::from_fn;
 
 /// The length of a recipe's name field.
@@ -17,6 +17,9 @@ pub const FIELD: usize = 68;
 
 /// The length of a flat record: its class and three fields.
 pub const RECORD: usize = 1 + 3 * FIELD;
+
+/// The length of a companion entry: its kind, a name, four time fields and four extent fields.
+pub const ENTRY: usize = 1 + 9 * FIELD;
 
 /// The longest recipe.
 pub const MAX_RECIPE: usize = 16_384;
@@ -66,6 +69,15 @@ impl From<Verdict> for TableAnswer {
             place: answer.place,
             count: answer.count,
         }
+    }
+}
+
+impl From<Result<(usize, usize), Refusal>> for FactorsAnswer {
+    /// It "also returns the entry count, 0 on a refusal".
+    fn from(counted: Result<(usize, usize), Refusal>) -> Self {
+        let entries = counted.map_or(0, |(_, entries)| entries as u64);
+        let flat = Answer::from(counted.map(|(count, _)| count));
+        FactorsAnswer { flat, entries }
     }
 }
 

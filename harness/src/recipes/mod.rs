@@ -114,7 +114,7 @@ macro_rules! kinds {
     };
 }
 
-// 01's table: a kind is added here, and a line for it in `text`.
+// 01's table and 02's kind 8: a kind is added here, and a line for it in `text`.
 kinds! {
     1 Model { name: Name }
     2 Element { name: Name, class: Class, parent: Name, reference: Name }
@@ -123,6 +123,7 @@ kinds! {
     5 Deletion { target: Target }
     6 Replacement { owner: Name, target: Target }
     7 ReplacedBy { owner: Name, target: Target }
+    8 Factors { submodel: Name, time: Name, extent: Name }
 }
 
 impl Record {

@@ -17,11 +17,12 @@
 //!   delete a.v
 //!   replace a:i by c                       # c owns the replacement
 //!   c replaced by a.v                      # c owns the replaced-by
+//!   factors a time f extent g              # a's time factor is f, and its extent factor g
 //!   bytes 63 00 ff                         # these bytes, whatever they are
 //! ```
 //!
-//! A blank name is `-`, or nothing beside the dot or colon of a target; a blank parent or reference is left
-//! out. After `#` comes a remark, which printing uses for the record's place. Indentation is free.
+//! A blank name is `-`, or nothing beside the dot or colon of a target; a blank parent, reference or
+//! factor is left out. After `#` comes a remark, which printing uses for the record's place. Indentation is free.
 //! In an example file a line `gives` follows, and then what 01's printing program prints.
 
 use super::{decode, encode, Field, Part, Record, Target, BLANK};
@@ -59,6 +60,10 @@ const FORMS: &[(u8, &[Piece])] = &[
     (5, &[Word("delete"), At(0)]),
     (6, &[Word("replace"), At(1), Word("by"), At(0)]),
     (7, &[At(0), Word("replaced"), Word("by"), At(1)]),
+    (
+        8,
+        &[Word("factors"), At(0), Link("time", 1), Link("extent", 2)],
+    ),
 ];
 
 /// A recipe as text, each record with its place.

@@ -1,4 +1,4 @@
-//! Rows 4 to 6: from records to definitions whose records know what their names lead to.
+//! Rows 4, 5, 19 and 6: from records to definitions whose records know what their names lead to.
 //! Names within a submodel's model are left for row 8.
 
 use super::records::{self, Body, Mark, Name, Record, Target};
@@ -6,7 +6,7 @@ use crate::other::classes::{Class, Link};
 use crate::other::Refusal;
 use std::collections::{HashMap, HashSet};
 
-/// A recipe that rows 1 to 6 let pass. Definitions and what they hold are known by index.
+/// A recipe that rows 1 to 6 and 19 let pass. Definitions and what they hold are known by index.
 pub struct Recipe {
     pub definitions: Vec<Definition>,
     /// Each definition after those that it reaches.
@@ -34,6 +34,14 @@ pub struct Submodel {
     pub place: usize,
     pub name: Name,
     pub model: usize,
+    pub factors: Option<Factors>,
+}
+
+/// What a kind 8 record gives a submodel: elements of the containing definition.
+pub struct Factors {
+    pub place: usize,
+    /// The time and the extent factor.
+    pub named: [Link<usize>; 2],
 }
 
 /// A port or a mark: what both have is that they point at an element.
@@ -79,6 +87,16 @@ impl Names {
         match self.members.get(&(definition, name)) {
             Some(&Member::Element(element)) => Some(element),
             _ => None,
+        }
+    }
+
+    /// What a field of a definition leads to that may be blank.
+    fn link(&self, definition: usize, field: Option<Name>) -> Link<usize> {
+        match field {
+            None => Link::Blank,
+            Some(name) => self
+                .element(definition, name)
+                .map_or(Link::Nowhere, Link::To),
         }
     }
 
@@ -128,6 +146,7 @@ impl Names {
                     pointers += 1;
                     matches!(kind, Mark::ReplacedBy(owner) if !replaced.insert((definition, owner)))
                 }
+                Body::Factors { .. } => false,
             };
             // 4, at the later record: "model name used twice; element or submodel name twice in a
             // definition; port name twice in one; a definition's second replaced-by with one
@@ -157,6 +176,7 @@ pub fn read(recipe: &[u8]) -> Result<Recipe, Refusal> {
             place: record.place,
         })?;
     }
+    give_factors(&records, &names, &mut definitions)?;
     let inner_first = inner_first(&definitions)?;
     Ok(Recipe {
         definitions,
@@ -185,7 +205,8 @@ fn add(record: &Record, names: &Names, definitions: &mut Vec<Definition>) -> Opt
         Some(To::In { submodel, target })
     };
     match record.body {
-        Body::Model { .. } => {}
+        // Factors are judged when 5 is out.
+        Body::Model { .. } | Body::Factors { .. } => {}
         Body::Element {
             name,
             class,
@@ -203,10 +224,7 @@ fn add(record: &Record, names: &Names, definitions: &mut Vec<Definition>) -> Opt
             if !class.allows_parent(parent_class) {
                 return None;
             }
-            let reference = match reference {
-                None => Link::Blank,
-                Some(name) => element(name).map_or(Link::Nowhere, Link::To),
-            };
+            let reference = names.link(this, reference);
             definition.elements.push(Element {
                 place,
                 name,
@@ -217,7 +235,12 @@ fn add(record: &Record, names: &Names, definitions: &mut Vec<Definition>) -> Opt
         }
         Body::Submodel { name, model } => {
             let model = *names.models.get(&model)?;
-            definition.submodels.push(Submodel { place, name, model });
+            definition.submodels.push(Submodel {
+                place,
+                name,
+                model,
+                factors: None,
+            });
         }
         Body::Port {
             submodel, target, ..
@@ -245,6 +268,36 @@ fn add(record: &Record, names: &Names, definitions: &mut Vec<Definition>) -> Opt
         }
     }
     Some(())
+}
+
+/// Gives each submodel the factors of its kind 8 record.
+fn give_factors(
+    records: &[Record],
+    names: &Names,
+    definitions: &mut [Definition],
+) -> Result<(), Refusal> {
+    let mut models = 0;
+    for record in records {
+        let place = record.place;
+        let (submodel, factors) = match record.body {
+            Body::Model { .. } => {
+                models += 1;
+                continue;
+            }
+            Body::Factors { submodel, factors } => (submodel, factors),
+            _ => continue,
+        };
+        let this = models - 1;
+        // 19, at the (later) kind 8 record: "submodel undeclared (no 5 here) or given factors twice".
+        let given = names
+            .submodel(this, submodel)
+            .map(|submodel| &mut definitions[this].submodels[submodel].factors)
+            .filter(|given| given.is_none())
+            .ok_or(Refusal { number: 19, place })?;
+        let named = factors.map(|factor| names.link(this, factor));
+        *given = Some(Factors { place, named });
+    }
+    Ok(())
 }
 
 /// Tarjan's strong components: they come inner first, and a definition reaches itself if it has

@@ -1,12 +1,13 @@
-//! Rows 12 and 13: the survivors' references, their flat names, and the table.
+//! Rows 12 and 13: the survivors' references, their flat names, and the tables.
 //! A submodel's underscores come out of one look at the names around it, without tries.
 
 use super::definitions::{Definition, Recipe};
+use super::factors::{self, Ends};
 use super::marks::Fates;
 use super::records::{unpadded, Name};
 use super::tree::Tree;
 use crate::other::classes::{Class, Link};
-use crate::other::{Refusal, FIELD, RECORD};
+use crate::other::{Refusal, ENTRY, FIELD, RECORD};
 use std::collections::HashMap;
 
 /// A flat model, ready to be written.
@@ -15,10 +16,12 @@ pub struct Flat {
     pub(super) tree: Tree,
     /// In tree order, so in order of their numbers.
     pub(super) survivors: Vec<Survivor>,
+    /// For each instance those of its submodel.
+    pub(super) factors: Vec<Ends>,
 }
 
 pub(super) struct Survivor {
-    class: Class,
+    pub(super) class: Class,
     pub(super) element: usize,
     parent: Option<usize>,
     /// The end of the chain from its reference.
@@ -38,10 +41,7 @@ impl Flat {
             let end = element
                 .reference
                 .map(|reference| fates.chain_end(instance.first + reference));
-            let end_class = |end: usize| {
-                let (instance, index) = tree.elements[end];
-                recipe.definitions[tree.instances[instance].definition].elements[index].class
-            };
+            let end_class = |end| tree.element(&recipe, end).class;
             let ends_at_gone = matches!(end, Link::To(end) if fates.of[end].is_gone);
             // 12, at the element: "a survivor's reference is blank or filled against its class,
             // names no element of its definition, or its chain ends at a gone element or a wrong
@@ -59,14 +59,16 @@ impl Flat {
                 },
             });
         }
-        match lowest {
-            Some(place) => Err(Refusal { number: 12, place }),
-            None => Ok(Flat {
-                recipe,
-                tree,
-                survivors,
-            }),
+        if let Some(place) = lowest {
+            return Err(Refusal { number: 12, place });
         }
+        let factors = factors::resolve(&recipe, &tree, fates)?;
+        Ok(Flat {
+            recipe,
+            tree,
+            survivors,
+            factors,
+        })
     }
 
     /// The number of flat records.
@@ -74,36 +76,56 @@ impl Flat {
         self.survivors.len()
     }
 
+    pub fn write(&self, table: &mut [u8]) -> Result<(), Refusal> {
+        let records = beginning(table, RECORD * self.count())?;
+        self.write_table(records, &self.prefixes());
+        Ok(())
+    }
+
+    /// "A call beside flattening writes both".
+    pub fn write_with_factors(
+        &self,
+        table: &mut [u8],
+        companion: &mut [u8],
+    ) -> Result<(), Refusal> {
+        let records = beginning(table, RECORD * self.count())?;
+        let entries = beginning(companion, ENTRY * self.entries())?;
+        let prefixes = self.prefixes();
+        self.write_table(records, &prefixes);
+        for (entry, named) in entries.chunks_exact_mut(ENTRY).zip(self.companion()) {
+            self.write_record(entry, 8, &named, &prefixes);
+        }
+        Ok(())
+    }
+
     /// "Each survivor gives 205 bytes, in tree order: its class as the kind byte, then three
     /// 68-byte fields, zero padded: flat name, parent's flat name or zeros, flat name of the
     /// element at the end of the chain from its reference or zeros."
-    pub fn write(&self, table: &mut [u8]) -> Result<(), Refusal> {
-        // 13, at 0: "output shorter than 205 × survivors".
-        let records = table.get_mut(..RECORD * self.count()).ok_or(Refusal {
-            number: 13,
-            place: 0,
-        })?;
-        let prefixes = self.prefixes();
-        let write = |field: &mut [u8], number: usize| {
-            let (instance, index) = self.tree.elements[number];
-            let definition = self.tree.instances[instance].definition;
-            let prefix = &prefixes[instance];
-            let (before, name) = field.split_at_mut(prefix.len());
-            before.copy_from_slice(prefix);
-            let element = unpadded(&self.recipe.definitions[definition].elements[index].name);
-            name[..element.len()].copy_from_slice(element);
-        };
-        records.fill(0);
+    fn write_table(&self, records: &mut [u8], prefixes: &[Vec<u8>]) {
         for (record, survivor) in records.chunks_exact_mut(RECORD).zip(&self.survivors) {
-            record[0] = survivor.class as u8;
-            let numbers = [Some(survivor.element), survivor.parent, survivor.reference];
-            for (field, number) in record[1..].chunks_exact_mut(FIELD).zip(numbers) {
-                if let Some(number) = number {
-                    write(field, number);
-                }
+            let named = [Some(survivor.element), survivor.parent, survivor.reference];
+            self.write_record(record, survivor.class as u8, &named, prefixes);
+        }
+    }
+
+    /// A kind byte, and fields with the flat names of these elements.
+    fn write_record(
+        &self,
+        record: &mut [u8],
+        kind: u8,
+        named: &[Option<usize>],
+        prefixes: &[Vec<u8>],
+    ) {
+        record.fill(0);
+        record[0] = kind;
+        for (field, number) in record[1..].chunks_exact_mut(FIELD).zip(named) {
+            if let Some(number) = *number {
+                let prefix = &prefixes[self.tree.elements[number].0];
+                let name = unpadded(&self.tree.element(&self.recipe, number).name);
+                field[..prefix.len()].copy_from_slice(prefix);
+                field[prefix.len()..][..name.len()].copy_from_slice(name);
             }
         }
-        Ok(())
     }
 
     /// For each instance what its flat names begin with: "the prefixes from main downward".
@@ -129,6 +151,15 @@ impl Flat {
         }
         prefixes
     }
+}
+
+/// The part of an output that is written.
+fn beginning(output: &mut [u8], length: usize) -> Result<&mut [u8], Refusal> {
+    // 13, at 0: "output shorter than 205 × survivors", "a companion buffer below 613 × entries".
+    output.get_mut(..length).ok_or(Refusal {
+        number: 13,
+        place: 0,
+    })
 }
 
 /// The longest run of underscores after each beginning of a definition's names, where it is two or

@@ -2,6 +2,7 @@
 //! It is what the library is compared with. `slow` stands beside it, and follows rules that can be bent.
 
 mod definitions;
+mod factors;
 mod flat;
 mod marks;
 mod origin;
@@ -13,13 +14,13 @@ mod tree;
 pub mod walkers;
 
 use super::Refusal;
-use crate::bandrolt::{Answer, Origin};
+use crate::bandrolt::{Answer, FactorsAnswer, Origin};
 pub use flat::Flat;
 use marks::Fates;
 use targets::Targets;
 use tree::Tree;
 
-/// Rows 1 to 12: "The lowest number that applies is given, then its lowest place."
+/// Rows 1 to 12, with 19 after 5 and 20 after 12: the first that applies is given, then its lowest place.
 pub fn judge(recipe: &[u8]) -> Result<Flat, Refusal> {
     let recipe = definitions::read(recipe)?;
     let tree = Tree::walk(&recipe)?;
@@ -36,6 +37,19 @@ pub fn flatten(recipe: &[u8], table: &mut [u8]) -> Answer {
     let written = judge(recipe).and_then(|flat| {
         flat.write(table)?;
         Ok(flat.count())
+    });
+    written.into()
+}
+
+/// The same, and on acceptance the factors' entries at the companion's beginning.
+pub fn flatten_with_factors(
+    recipe: &[u8],
+    table: &mut [u8],
+    companion: &mut [u8],
+) -> FactorsAnswer {
+    let written = judge(recipe).and_then(|flat| {
+        flat.write_with_factors(table, companion)?;
+        Ok((flat.count(), flat.entries()))
     });
     written.into()
 }

@@ -36,6 +36,11 @@ pub enum Body {
         submodel: Name,
         target: Target,
     },
+    Factors {
+        submodel: Name,
+        /// The time and the extent factor.
+        factors: [Option<Name>; 2],
+    },
 }
 
 /// A mark's kind, with its owner where it has one.
@@ -85,7 +90,7 @@ pub fn read(recipe: &[u8]) -> Result<Vec<Record>, Refusal> {
 /// The length of a body, and how it is read.
 type Kind = (usize, fn(&mut Fields) -> Option<Body>);
 
-/// 01's table of kinds.
+/// 01's table of kinds, and 02's kind 8.
 fn kind(byte: u8) -> Option<Kind> {
     Some(match byte {
         1 => (NAME, |fields| {
@@ -122,6 +127,12 @@ fn kind(byte: u8) -> Option<Kind> {
         7 => (3 * NAME + 1, |fields| {
             let owner = fields.name()?;
             fields.mark(Mark::ReplacedBy(owner))
+        }),
+        8 => (3 * NAME, |fields| {
+            Some(Body::Factors {
+                submodel: fields.name()?,
+                factors: [fields.name_or_blank()?, fields.name_or_blank()?],
+            })
         }),
         _ => return None,
     })

@@ -1,7 +1,7 @@
 //! Row 7: main's tree, its instances and elements numbered in tree order.
 //! The walk ends at the limits, however much the recipe would unfold to.
 
-use super::definitions::Recipe;
+use super::definitions::{Element, Recipe};
 use crate::other::Refusal;
 use std::iter::repeat_n;
 
@@ -81,6 +81,12 @@ impl Tree {
                 self.add(recipe, submodel.model, depth + 1, Some((instance, i)))?;
         }
         Some(instance)
+    }
+
+    /// The record of an element of the tree.
+    pub fn element<'a>(&self, recipe: &'a Recipe, number: usize) -> &'a Element {
+        let (instance, index) = self.elements[number];
+        &recipe.definitions[self.instances[instance].definition].elements[index]
     }
 
     /// The instance of an instance's submodel.
