@@ -1,5 +1,5 @@
-//! The rules that `slow` follows: 01's, and bent ones.
-//! The bent ones, the mutants, are wrong programs that the generated recipes must tell from 01.
+//! The rules that `slow` follows: those of 01 and of 02's factors, and bent ones.
+//! The bent ones, the mutants, are wrong programs that the generated recipes must tell from these.
 
 use super::slow::{Kind, Part};
 use crate::other::rules::{Row, CLASS_TABLE};
@@ -24,11 +24,13 @@ pub(super) enum ReplacedBy {
     BothStay,
 }
 
-/// The rules of a flattening program; the default ones are 01's.
+/// The rules of a flattening program; the default ones are 01's and 02's.
 pub struct Rules {
     pub(super) longest_recipe: usize,
     pub(super) any_first_record: bool,
-    /// When a number from 3 to 12 is judged; those of one rank go by place alone.
+    /// How many kinds are known.
+    pub(super) kinds: usize,
+    /// When a number from 3 to 12, 19 or 20 is judged; those of one rank go by place alone. 13 has rank 26.
     pub(super) rank: fn(u64) -> u64,
     /// May a name have digits behind its first character?
     pub(super) digits: bool,
@@ -40,12 +42,23 @@ pub struct Rules {
     /// Have records of these two kinds one space of names?
     pub(super) one_space: fn(Kind, Kind) -> bool,
     pub(super) second_replaced_by: bool,
+    pub(super) second_factors_are_4: bool,
     pub(super) class_table: [Row; 7],
     /// May what is at the second place be a parent, owner or model at the first?
     pub(super) parent_at: fn(usize, usize) -> bool,
     pub(super) owner_at: fn(usize, usize) -> bool,
     pub(super) model_at: fn(usize, usize) -> bool,
     pub(super) port_to_own_port: bool,
+    /// May both factors of a kind 8 record be blank?
+    pub(super) blank_factors: bool,
+    pub(super) lost_factors_are_5: bool,
+    /// May what a record of this kind declares be given factors, and at the second place by a record at the first?
+    pub(super) given_factors: fn(Kind) -> bool,
+    pub(super) submodel_at: fn(usize, usize) -> bool,
+    /// Is a submodel given factors twice by two records with these?
+    pub(super) given_twice: fn([&[u8]; 2], [&[u8]; 2]) -> bool,
+    pub(super) earlier_factors: bool,
+    pub(super) unused_for_19: bool,
     pub(super) unused_cycles: bool,
     pub(super) ways_to_cycles: bool,
     pub(super) max_instances: usize,
@@ -78,7 +91,21 @@ pub struct Rules {
     pub(super) gone_targets: bool,
     pub(super) gone_for_12: bool,
     pub(super) gone_ends: bool,
+    pub(super) undeclared_factors: bool,
+    pub(super) gone_factors: bool,
+    pub(super) factor_classes: &'static [u8],
+    pub(super) factor_steps: usize,
+    pub(super) all_instances_for_20: bool,
+    pub(super) unused_for_20: bool,
+    /// Is 20 judged for factors that no entry shows?
+    pub(super) unshown_for_20: bool,
+    pub(super) first_in_tree_for_20: bool,
     pub(super) spare_room: usize,
+    pub(super) spare_companion: usize,
+    /// Is a companion that is too short filled as far as it goes?
+    pub(super) short_companion: bool,
+    /// Is the table written before the companion's length is looked at?
+    pub(super) table_goes_first: bool,
     pub(super) order_of_tree: TreeOrder,
     /// Are names of the containing and of the instantiated definition tried?
     pub(super) outer_names: bool,
@@ -93,6 +120,24 @@ pub struct Rules {
     pub(super) nothing_is_written: bool,
     pub(super) rest_is_zeroed: bool,
     pub(super) gone_counted: bool,
+    /// Has a survivor of this class an entry, and with which kind byte?
+    pub(super) entered: fn(u8) -> bool,
+    pub(super) entry_kind: fn(u8) -> u8,
+    pub(super) gone_entered: bool,
+    /// The number of the field for the submodel at this depth, of so many, and for its time (0) or extent factor (1).
+    pub(super) field_of: fn(usize, usize, usize) -> usize,
+    /// Is it the end of the chain from a factor that is shown?
+    pub(super) end_is_shown: bool,
+    pub(super) companion_is_zeroed: bool,
+}
+
+/// Twice 01's number; 19 comes after 5, and 20 after 12.
+fn in_order(number: u64) -> u64 {
+    match number {
+        19 => 11,
+        20 => 25,
+        other => 2 * other,
+    }
 }
 
 impl Default for Rules {
@@ -100,18 +145,27 @@ impl Default for Rules {
         Rules {
             longest_recipe: MAX_RECIPE,
             any_first_record: false,
-            rank: |number| number,
+            kinds: 8,
+            rank: in_order,
             digits: true,
             padding_is_zero: true,
             may_end_with_underscore: |kind, part| (kind, part) != (Kind::Submodel, Part::Name),
             compared: NAME,
             one_space: |a, b| (a == Kind::Port) == (b == Kind::Port),
             second_replaced_by: false,
+            second_factors_are_4: false,
             class_table: CLASS_TABLE,
             parent_at: |place, parent| parent < place,
             owner_at: |_, _| true,
             model_at: |_, _| true,
             port_to_own_port: false,
+            blank_factors: true,
+            lost_factors_are_5: false,
+            given_factors: |kind| kind == Kind::Submodel,
+            submodel_at: |_, _| true,
+            given_twice: |_, _| true,
+            earlier_factors: false,
+            unused_for_19: true,
             unused_cycles: true,
             ways_to_cycles: false,
             max_instances: 64,
@@ -136,7 +190,18 @@ impl Default for Rules {
             gone_targets: false,
             gone_for_12: false,
             gone_ends: false,
+            undeclared_factors: false,
+            gone_factors: false,
+            factor_classes: &[3],
+            factor_steps: usize::MAX,
+            all_instances_for_20: true,
+            unused_for_20: false,
+            unshown_for_20: true,
+            first_in_tree_for_20: false,
             spare_room: 0,
+            spare_companion: 0,
+            short_companion: false,
+            table_goes_first: false,
             order_of_tree: TreeOrder::DepthFirst,
             outer_names: true,
             inner_names: true,
@@ -147,6 +212,12 @@ impl Default for Rules {
             nothing_is_written: false,
             rest_is_zeroed: false,
             gone_counted: false,
+            entered: |class| class == 4 || class == 6,
+            entry_kind: |_| 8,
+            gone_entered: false,
+            field_of: |depth, _, which| 4 * which + depth,
+            end_is_shown: true,
+            companion_is_zeroed: false,
         }
     }
 }
@@ -210,12 +281,14 @@ pub const MUTANTS: &[(&str, Bend)] = &[
     }),
     ("5 is judged before 4", |r| {
         r.rank = |number| match number {
-            4 => 5,
-            5 => 4,
-            other => other,
+            4 => in_order(5),
+            5 => in_order(4),
+            other => in_order(other),
         }
     }),
-    ("3 to 5 go by place", |r| r.rank = |number| number.max(5)),
+    ("3 to 5 go by place", |r| {
+        r.rank = |number| in_order(number).max(in_order(5))
+    }),
     ("a cycle may be where main doesn't reach", |r| {
         r.unused_cycles = false
     }),
@@ -286,12 +359,17 @@ pub const MUTANTS: &[(&str, Bend)] = &[
     }),
     ("10 is judged before 9", |r| {
         r.rank = |number| match number {
-            9 => 10,
-            10 => 9,
-            other => other,
+            9 => in_order(10),
+            10 => in_order(9),
+            other => in_order(other),
         }
     }),
-    ("9 to 12 go by place", |r| r.rank = |number| number.min(9)),
+    ("9 to 12 go by place", |r| {
+        r.rank = |number| match number {
+            9..=12 => in_order(9),
+            other => in_order(other),
+        }
+    }),
     // Gone, and the chain.
     ("a replaced-by steps to the owner", |r| {
         r.replaced_by = ReplacedBy::TargetGoes
@@ -375,4 +453,127 @@ pub const MUTANTS: &[(&str, Bend)] = &[
         r.rest_is_zeroed = true
     }),
     ("the count has gone elements", |r| r.gone_counted = true),
+    // Kind 8.
+    ("kind 8 is unknown", |r| r.kinds = 7),
+    ("both factors may not be blank", |r| r.blank_factors = false),
+    ("kind 8's submodel may not end with an underscore", |r| {
+        r.may_end_with_underscore = |kind, part| {
+            !matches!(
+                (kind, part),
+                (Kind::Submodel, Part::Name) | (Kind::Factors, Part::Submodel)
+            )
+        }
+    }),
+    ("factors given twice are 4", |r| {
+        r.second_factors_are_4 = true
+    }),
+    // The order of judging.
+    ("19 is judged before 5", |r| {
+        r.rank = |number| match number {
+            19 => in_order(5) - 1,
+            other => in_order(other),
+        }
+    }),
+    ("19 is judged after 6", |r| {
+        r.rank = |number| match number {
+            19 => in_order(6) + 1,
+            other => in_order(other),
+        }
+    }),
+    ("20 is judged before 12", |r| {
+        r.rank = |number| match number {
+            20 => in_order(12) - 1,
+            other => in_order(other),
+        }
+    }),
+    ("20 is judged after 13", |r| {
+        r.rank = |number| match number {
+            20 => in_order(13) + 1,
+            other => in_order(other),
+        }
+    }),
+    ("19 and 20 are judged by their numbers", |r| {
+        r.rank = |number| 2 * number
+    }),
+    // 19.
+    ("19 is judged in the tree only", |r| r.unused_for_19 = false),
+    ("an element may be given factors", |r| {
+        r.given_factors = |_| true
+    }),
+    ("factors must be behind their submodel", |r| {
+        r.submodel_at = |place, submodel| submodel < place
+    }),
+    ("factors of no submodel are 5", |r| {
+        r.lost_factors_are_5 = true
+    }),
+    ("blank factors don't count as given", |r| {
+        r.given_twice = |first, _| first.iter().any(|name| !name.is_empty())
+    }),
+    ("the same factors may be given again", |r| {
+        r.given_twice = |first, second| first != second
+    }),
+    ("the earlier kind 8 is reported", |r| {
+        r.earlier_factors = true
+    }),
+    // 20.
+    ("20 is judged in unused definitions", |r| {
+        r.unused_for_20 = true
+    }),
+    ("20 is judged where an entry shows the factor", |r| {
+        r.unshown_for_20 = false
+    }),
+    ("20 is judged in the first instance only", |r| {
+        r.all_instances_for_20 = false
+    }),
+    ("20 is at the tree's first", |r| {
+        r.first_in_tree_for_20 = true
+    }),
+    ("an undeclared factor is a blank", |r| {
+        r.undeclared_factors = true
+    }),
+    ("a factor may end gone", |r| r.gone_factors = true),
+    ("a factor may be of any class", |r| {
+        r.factor_classes = &[1, 2, 3, 4, 5, 6, 7]
+    }),
+    ("a factor may be a local parameter", |r| {
+        r.factor_classes = &[3, 7]
+    }),
+    ("a factor's chain is not followed", |r| r.factor_steps = 0),
+    ("a factor's chain has one step", |r| r.factor_steps = 1),
+    // The entries.
+    ("reactions alone have entries", |r| {
+        r.entered = |class| class == 4
+    }),
+    ("rate rules alone have entries", |r| {
+        r.entered = |class| class == 6
+    }),
+    ("all survivors have entries", |r| r.entered = |_| true),
+    ("gone reactions have entries", |r| r.gone_entered = true),
+    ("an entry begins with the class", |r| {
+        r.entry_kind = |class| class
+    }),
+    ("fields go from the element upward", |r| {
+        r.field_of = |depth, all, which| 4 * which + all + 1 - depth
+    }),
+    ("time and extent fields take turns", |r| {
+        r.field_of = |depth, _, which| 2 * depth - 1 + which
+    }),
+    ("extent fields come first", |r| {
+        r.field_of = |depth, _, which| 4 * (1 - which) + depth
+    }),
+    ("a field has the factor's own name", |r| {
+        r.end_is_shown = false
+    }),
+    // 13 with a companion.
+    ("the companion must have a byte to spare", |r| {
+        r.spare_companion = 1
+    }),
+    ("a short companion is filled", |r| r.short_companion = true),
+    (
+        "the table is written before the companion is found short",
+        |r| r.table_goes_first = true,
+    ),
+    ("bytes after the entries are zeroed", |r| {
+        r.companion_is_zeroed = true
+    }),
 ];

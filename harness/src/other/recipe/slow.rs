@@ -1,13 +1,18 @@
 //! 01's flattening word by word and slowly, by rules that can be bent one at a time, and the elements that `walkers` find.
 //! It shares nothing with the other program but a few lengths.
 
+mod factors;
+
 use super::rules::{ReplacedBy, Rules, TreeOrder};
 use crate::bandrolt::Answer;
 use crate::other::rules::{before_zero, Row};
 use crate::other::{Refusal, Route, FIELD, NAME, RECORD};
 use std::collections::{BTreeSet, HashSet};
 use std::iter::successors;
+use std::ops::RangeInclusive;
 use Part::*;
+
+pub use factors::{factor_cases, flatten_with_factors, FactorCase};
 
 /// What a record is.
 #[derive(Clone, Copy, PartialEq)]
@@ -19,6 +24,7 @@ pub(super) enum Kind {
     Deletion,
     Replacement,
     ReplacedBy,
+    Factors,
 }
 
 /// What a part of a body is.
@@ -33,6 +39,8 @@ pub(super) enum Part {
     Submodel,
     Way,
     Target,
+    Time,
+    Extent,
 }
 
 impl Part {
@@ -44,7 +52,7 @@ impl Part {
     }
 }
 
-/// 01's table of kinds: the kind byte, what it makes the record, its body in order, and which parts of
+/// 01's table of kinds with 02's kind 8: the kind byte, what it makes the record, its body in order, and which parts of
 /// that may be blank.
 const KINDS: &[(u8, Kind, &[Part], &[Part])] = &[
     (1, Kind::Model, &[Name], &[]),
@@ -59,6 +67,7 @@ const KINDS: &[(u8, Kind, &[Part], &[Part])] = &[
     (5, Kind::Deletion, &[Submodel, Way, Target], &[]),
     (6, Kind::Replacement, &[Owner, Submodel, Way, Target], &[]),
     (7, Kind::ReplacedBy, &[Owner, Submodel, Way, Target], &[]),
+    (8, Kind::Factors, &[Submodel, Time, Extent], &[Time, Extent]),
 ];
 
 struct Record<'a> {
@@ -179,10 +188,16 @@ struct Reading<'a> {
     gone: HashSet<Spot>,
 }
 
+/// The ranks of the numbers that are judged before 13, and of those that a bent rule judges after it.
+const BEFORE_13: RangeInclusive<u64> = 6..=25;
+const AFTER_13: RangeInclusive<u64> = 26..=40;
+
 pub fn flatten(recipe: &[u8], table: &mut [u8], rules: &Rules) -> Answer {
     let verdict = Reading::new(recipe, rules).and_then(|mut reading| {
-        reading.judge()?;
-        reading.write(table)
+        reading.judge(BEFORE_13)?;
+        reading.check_room(table)?;
+        reading.judge(AFTER_13)?;
+        Ok(reading.write(table))
     });
     verdict.into()
 }
@@ -194,7 +209,7 @@ pub fn conflicts(recipe: &[u8]) -> BTreeSet<(Conflict, bool)> {
     let Ok(mut reading) = Reading::new(recipe, &rules) else {
         return BTreeSet::new();
     };
-    match reading.judge() {
+    match reading.judge(BEFORE_13) {
         Err(Refusal { number: 9, place }) => {
             let conflicts = reading.conflicts().into_iter();
             conflicts
@@ -218,7 +233,7 @@ pub struct Element {
 pub fn elements(recipe: &[u8]) -> Result<Vec<Element>, Refusal> {
     let rules = Rules::default();
     let mut reading = Reading::new(recipe, &rules)?;
-    reading.judge()?;
+    reading.judge(BEFORE_13)?;
     let prefixes = reading.prefixes();
     let spots = reading.elements.iter();
     Ok(spots
@@ -238,7 +253,7 @@ impl Rules {
     }
 
     fn reads(&self, record: &Record) -> bool {
-        record.parts().all(|(part, field)| {
+        let reads = |(part, field): (Part, &[u8])| {
             let ends_well = || {
                 (self.may_end_with_underscore)(record.kind, part)
                     || !before_zero(field).ends_with(b"_")
@@ -249,7 +264,11 @@ impl Rules {
                 Way => field[0] <= 1,
                 _ => is_blank() || self.is_name(field) && ends_well(),
             }
-        })
+        };
+        let is_filled = |&part: &Part| !record.name(part).is_empty();
+        let has_factor = || [Time, Extent].iter().any(is_filled);
+        let may_be_blank = record.kind != Kind::Factors || self.blank_factors;
+        record.parts().all(reads) && (may_be_blank || has_factor())
     }
 
     fn same(&self, a: &[u8], b: &[u8]) -> bool {
@@ -271,7 +290,8 @@ impl<'a> Reading<'a> {
         let mut place = 0;
         while place < recipe.len() {
             let refusal = Refusal { number: 2, place };
-            let known = KINDS.iter().find(|known| known.0 == recipe[place]);
+            let kinds = &KINDS[..rules.kinds];
+            let known = kinds.iter().find(|known| known.0 == recipe[place]);
             let &(_, kind, parts, may_be_blank) = known.ok_or(refusal)?;
             let length: usize = parts.iter().map(|part| part.length()).sum();
             let is_first = place == 0 && kind != Kind::Model && !rules.any_first_record;
@@ -313,10 +333,10 @@ impl<'a> Reading<'a> {
         })
     }
 
-    fn judge(&mut self) -> Result<(), Refusal> {
-        for rank in 3..=12 {
+    fn judge(&mut self, ranks: RangeInclusive<u64>) -> Result<(), Refusal> {
+        for rank in ranks {
             let is_judged = |&number: &u64| (self.rules.rank)(number) == rank;
-            let numbers: Vec<u64> = (3..=12).filter(is_judged).collect();
+            let numbers: Vec<u64> = (3..=12).chain([19, 20]).filter(is_judged).collect();
             let mut found: Option<Refusal> = None;
             for number in numbers {
                 let lowest = self.faults(number).into_iter().min();
@@ -368,7 +388,9 @@ impl<'a> Reading<'a> {
                 let faults = self.pointers.iter().filter(is_gone);
                 faults.map(|p| self.records[p.record].place).collect()
             }
-            _ => self.dangling(),
+            12 => self.dangling(),
+            19 => self.factors_given(),
+            _ => self.wrong_factors(),
         }
     }
 
@@ -407,6 +429,7 @@ impl<'a> Reading<'a> {
             (Kind::Model, Kind::Model) => true,
             _ if a.model != b.model => false,
             (Kind::ReplacedBy, Kind::ReplacedBy) => !self.rules.second_replaced_by,
+            (Kind::Factors, Kind::Factors) => self.rules.second_factors_are_4,
             (a, b) => is_member(a) && is_member(b) && (self.rules.one_space)(a, b),
         };
         is_space && self.rules.same(a.first, b.first)
@@ -437,6 +460,7 @@ impl<'a> Reading<'a> {
                     |owner: usize| (self.rules.owner_at)(record.place, self.records[owner].place);
                 self.named(i, Owner).is_some_and(is_placed) && is_submodel()
             }
+            Kind::Factors => !self.rules.lost_factors_are_5 || is_submodel(),
         }
     }
 
@@ -755,9 +779,9 @@ impl<'a> Reading<'a> {
         self.gone_by(spot).is_some() || parent.is_some_and(takes)
     }
 
-    fn chain_end(&self, mut spot: Spot) -> Spot {
+    fn chain_end(&self, mut spot: Spot, most_steps: usize) -> Spot {
         // A bent rule may lead a chain round.
-        for _ in 0..self.rules.chain_steps.min(self.elements.len()) {
+        for _ in 0..most_steps.min(self.elements.len()) {
             let next = self.gone_by(spot).and_then(|mark| {
                 match (self.records[mark.record].kind, self.rules.replaced_by) {
                     (Kind::ReplacedBy, ReplacedBy::OwnerGoes) => Some(mark.target),
@@ -812,7 +836,7 @@ impl<'a> Reading<'a> {
             return row.reference.blank.then_some(None);
         }
         let named = self.named(spot.1, Reference)?;
-        let end = self.chain_end((spot.0, named));
+        let end = self.chain_end((spot.0, named), self.rules.chain_steps);
         let ends_well = (!self.gone.contains(&end) || self.rules.gone_ends)
             && row.reference.classes.contains(&self.class(end.1));
         ends_well.then_some(Some(end))
@@ -888,18 +912,27 @@ impl<'a> Reading<'a> {
         }
     }
 
-    fn write(&self, table: &mut [u8]) -> Result<usize, Refusal> {
+    fn survivors(&self) -> Vec<Spot> {
         let elements = self.elements.iter();
-        let survivors: Vec<Spot> = elements
+        elements
             .filter(|spot| !self.gone.contains(spot))
             .copied()
-            .collect();
-        if table.len() < RECORD * survivors.len() + self.rules.spare_room {
+            .collect()
+    }
+
+    fn check_room(&self, table: &[u8]) -> Result<(), Refusal> {
+        if table.len() < RECORD * self.survivors().len() + self.rules.spare_room {
             return Err(Refusal {
                 number: 13,
                 place: 0,
             });
         }
+        Ok(())
+    }
+
+    /// The number of records comes back.
+    fn write(&self, table: &mut [u8]) -> usize {
+        let survivors = self.survivors();
         let prefixes = self.prefixes();
         let written = match self.rules.nothing_is_written {
             true => &[],
@@ -918,9 +951,9 @@ impl<'a> Reading<'a> {
         if self.rules.rest_is_zeroed {
             table[RECORD * survivors.len()..].fill(0);
         }
-        Ok(match self.rules.gone_counted {
+        match self.rules.gone_counted {
             true => self.elements.len(),
             false => survivors.len(),
-        })
+        }
     }
 }
