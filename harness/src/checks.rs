@@ -1,17 +1,25 @@
 //! The comparison of one recipe: a check for each exported call that takes recipes.
 //! A call is added by an entry in `CHECKS`; the walk back, which takes names, too, has `walks`.
 
-use crate::bandrolt::{check_table, flatten, Answer, TableAnswer};
+use crate::bandrolt::{
+    check_table, flatten, flatten_with_factors, Answer, FactorsAnswer, TableAnswer,
+};
 use crate::other::recipe::rules::Rules;
 use crate::other::recipe::{self, slow};
-use crate::other::{table, RECORD};
+use crate::other::{table, ENTRY, FIELD, RECORD};
 use crate::random::Random;
+use crate::recipes::{decode, encode, Record};
+use std::collections::HashMap;
 
 /// What is wrong with the programs' answers to a recipe, with outputs of these lengths. What else a
 /// call is given is drawn.
 type Check = fn(&[u8], &[usize], &Random) -> Option<String>;
 
-const CHECKS: &[(&str, Check)] = &[("flattening", flattening)];
+const CHECKS: &[(&str, Check)] = &[
+    ("flattening", flattening),
+    ("flattening with factors", with_factors),
+    ("flattening without kind 8", without_factors),
+];
 
 type Flatten = fn(&[u8], &mut [u8]) -> Answer;
 
@@ -22,6 +30,17 @@ pub const FLATTENERS: &[(&str, Flatten)] = &[
         slow::flatten(recipe, table, &Rules::default())
     }),
     ("library", flatten),
+];
+
+type FlattenWithFactors = fn(&[u8], &mut [u8], &mut [u8]) -> FactorsAnswer;
+
+/// The same for flattening with factors.
+pub const WITH_FACTORS: &[(&str, FlattenWithFactors)] = &[
+    ("other", recipe::flatten_with_factors),
+    ("slow", |recipe, table, companion| {
+        slow::flatten_with_factors(recipe, table, companion, &Rules::default())
+    }),
+    ("library", flatten_with_factors),
 ];
 
 /// The programs that check tables; all must find closed what flattening leaves.
@@ -91,4 +110,96 @@ fn fault(answer: &Answer, output: &[u8]) -> Option<&'static str> {
     };
     let is_closed = TABLE_CHECKS.iter().all(|check| check(written) == closed);
     (!is_closed).then_some("the table is not closed")
+}
+
+/// Lengths of a companion: exact, one short, none, and long.
+pub fn companion_rooms(recipe: &[u8], random: &Random) -> Vec<usize> {
+    let exact = match recipe::judge(recipe) {
+        Ok(flat) => ENTRY * flat.entries(),
+        Err(_) => return vec![random.pick(&[0, ENTRY - 1, 5 * ENTRY])],
+    };
+    let long = exact + 1 + random.below(700);
+    vec![exact, exact.saturating_sub(1), 0, long]
+}
+
+/// The programs answer and write the same with a companion, for each length of the one output with the other exact.
+fn with_factors(recipe: &[u8], rooms: &[usize], random: &Random) -> Option<String> {
+    let companions = companion_rooms(recipe, random);
+    let by_companion = companions.iter().map(|&companion| (rooms[0], companion));
+    let by_table = rooms[1..].iter().map(|&room| (room, companions[0]));
+    let lent = recipe.to_vec().into_boxed_slice();
+    for (room, companion_room) in by_companion.chain(by_table) {
+        let [mut table, mut companion] = [room, companion_room].map(pattern);
+        let answer = recipe::flatten_with_factors(recipe, &mut table, &mut companion);
+        let rooms = format!("{room} and {companion_room} bytes");
+        let fault =
+            fault(&answer.flat, &table).or_else(|| companion_fault(&answer, &table, &companion));
+        if let Some(fault) = fault {
+            return Some(format!("{answer:?} with {rooms}: {fault}"));
+        }
+        for (program, flatten) in &WITH_FACTORS[1..] {
+            let [mut their_table, mut theirs] =
+                [room, companion_room].map(|room| pattern(room).into_boxed_slice());
+            let their_answer = flatten(&lent, &mut their_table, &mut theirs);
+            if their_answer != answer {
+                return Some(format!(
+                    "{program} answers {their_answer:?} with {rooms}, not {answer:?}"
+                ));
+            }
+            if *their_table != *table || *theirs != *companion {
+                return Some(format!("{program} writes other outputs of {rooms}"));
+            }
+            if *lent != *recipe {
+                return Some(format!("{program} changes the recipe"));
+            }
+        }
+    }
+    None
+}
+
+/// What a companion has to be beside its table, whatever the recipe.
+fn companion_fault(answer: &FactorsAnswer, table: &[u8], companion: &[u8]) -> Option<&'static str> {
+    let bytes = answer.entries as usize * ENTRY;
+    let Some((written, rest)) = companion.split_at_checked(bytes) else {
+        return Some("it has more entries than the companion");
+    };
+    if *rest != pattern(companion.len())[bytes..] {
+        return Some("the rest of the companion is changed");
+    }
+    let records = table[..answer.flat.bytes as usize].chunks(RECORD);
+    let classes: HashMap<&[u8], u8> = records.map(|r| (&r[1..=FIELD], r[0])).collect();
+    let is_factor = |field: &[u8]| *field == [0; FIELD] || classes.get(field) == Some(&3);
+    let is_entry = |entry: &[u8]| {
+        let mut fields = entry[1..].chunks(FIELD).skip(1);
+        entry[0] == 8 && fields.all(is_factor)
+    };
+    if !written.chunks(ENTRY).all(is_entry) {
+        return Some("an entry's factor is no parameter of the table");
+    }
+    let rates = table[..answer.flat.bytes as usize].chunks(RECORD);
+    let rates = rates.filter(|record| record[0] == 4 || record[0] == 6);
+    let are_named = rates
+        .map(|record| &record[1..=FIELD])
+        .eq(written.chunks(ENTRY).map(|entry| &entry[1..=FIELD]));
+    let is_refused = answer.flat.number != 0;
+    (!are_named || is_refused && answer.entries > 0)
+        .then_some("the entries are not those of the table's reactions and rate rules")
+}
+
+/// "The main table is as before": an accepted recipe without its kind 8 records has the same.
+fn without_factors(recipe: &[u8], rooms: &[usize], _: &Random) -> Option<String> {
+    let room = rooms[0];
+    let mut table = pattern(room);
+    let answer = recipe::flatten(recipe, &mut table);
+    let mut records = decode(recipe);
+    records.retain(|record| !matches!(record, Record::Factors { .. }));
+    let stripped = encode(&records);
+    if answer.number != 0 || stripped == recipe {
+        return None;
+    }
+    FLATTENERS.iter().find_map(|(program, flatten)| {
+        let mut theirs = pattern(room);
+        let is_same = flatten(&stripped, &mut theirs) == answer && theirs == table;
+        (!is_same).then(|| format!("{program} gives another table"))
+    })
 }

@@ -10,7 +10,7 @@ use harness::random::Random;
 use harness::recipes::enumerate::each_recipe;
 use harness::recipes::flat_names::{damaged, of_elements};
 use harness::recipes::generate::{case, deep};
-use harness::recipes::named::{edges, examples, to_try, Named};
+use harness::recipes::named::{edges, examples, factors, to_try, Named};
 use harness::recipes::proved::{self, WalkSample};
 use harness::recipes::text;
 use harness::report::{are_often, asked, save, Asked, Tally};
@@ -27,7 +27,7 @@ const FEW_CASES: u64 = 40;
 const MOST_NAMES: usize = 20;
 /// How many walks there must be, and how often each answer must come.
 const LEAST_WALKS: usize = 200_000;
-const REFUSALS: RangeInclusive<u64> = 1..=12;
+const REFUSALS: [u64; 14] = [1, 2, 3, 4, 5, 6, 7, 8, 9, 10, 11, 12, 19, 20];
 const LEAST_OF_A_REFUSAL: usize = 500;
 const NO_SURVIVOR: u64 = 18;
 const LEAST_OF_NO_SURVIVOR: usize = 20_000;
@@ -136,8 +136,8 @@ fn print_untold(samples: &[WalkSample]) {
 
 /// 01's recipes, with the names of all their elements.
 fn check_named(outcome: &mut Outcome, tally: &mut Tally) {
-    let named = [to_try(), edges(), examples()].into_iter().flatten();
-    let named: Vec<Named> = named.collect();
+    let named = [to_try(), edges(), factors(), examples()];
+    let named: Vec<Named> = named.into_iter().flatten().collect();
     println!("{} of 01's recipes, edges and examples", named.len());
     for named in &named {
         let before = outcome.differing;

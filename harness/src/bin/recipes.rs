@@ -2,18 +2,21 @@
 //! generated and on enumerated ones.
 //! `recipes [SEED]`, where the second random set follows from SEED or else from the clock; `recipes few`, for valgrind.
 
-use harness::bandrolt::Answer;
-use harness::checks::{complaint, pattern, FLATTENERS, TABLE_CHECKS};
+use harness::bandrolt::{Answer, FactorsAnswer};
+use harness::checks::{
+    companion_rooms, complaint, pattern, FLATTENERS, TABLE_CHECKS, WITH_FACTORS,
+};
 use harness::other::recipe::rules::{Rules, MUTANTS};
-use harness::other::recipe::slow::{self, conflicts, Conflict};
-use harness::other::{recipe, RECORD};
+use harness::other::recipe::slow::{self, conflicts, factor_cases, Conflict, FactorCase};
+use harness::other::{recipe, ENTRY, FIELD, RECORD};
 use harness::random::Random;
 use harness::recipes::enumerate::each_recipe;
 use harness::recipes::generate::case;
-use harness::recipes::named::{edges, examples, to_try, Named};
+use harness::recipes::named::{edges, examples, factors, to_try, Named};
 use harness::recipes::proved::{self, Sample, TableSample};
-use harness::recipes::{printed, text};
+use harness::recipes::{decode, printed, shown_entries, text, Record};
 use harness::report::{are_often, asked, save, Asked, Tally};
+use harness::tables::MAX_RECORDS;
 use std::collections::{BTreeMap, BTreeSet};
 use std::ops::RangeInclusive;
 use std::process::ExitCode;
@@ -24,10 +27,18 @@ const CASES_OF_A_SEED: u64 = 50_000;
 const FEW_CASES: u64 = 300;
 /// The numbers that recipes are answered with; each must come often enough.
 const NUMBERS: RangeInclusive<u64> = 0..=13;
+const NUMBERS_OF_FACTORS: [u64; 2] = [19, 20];
 /// And those of tables.
 const ALL_NUMBERS: RangeInclusive<u64> = 0..=17;
 const LEAST_OF_A_NUMBER: usize = 1_250;
 const LEAST_OF_A_CONFLICT: usize = 250;
+const LEAST_OF_A_FACTOR_CASE: usize = 250;
+/// In how many recipes of a seed there must be kind 8 records.
+const LEAST_WITH_KIND_8: usize = CASES_OF_A_SEED as usize / 2;
+/// How many accepted recipes must have entries, and a factor at each depth.
+const LEAST_WITH_ENTRIES: usize = 10_000;
+const DEPTHS: RangeInclusive<usize> = 1..=4;
+const LEAST_OF_A_DEPTH: usize = 1_000;
 /// How many mutants the proved recipes must tell.
 const LEAST_TOLD_BY_PROVED: usize = 80;
 
@@ -48,6 +59,11 @@ struct Outcome {
     numbers: BTreeMap<u64, usize>,
     /// In how many recipes each kind of conflict decided the place, or was beside one that did.
     conflicts: BTreeMap<(Conflict, bool), usize>,
+    /// In how many recipes there were kind 8 records, each case of these, entries, and a factor at each depth.
+    with_kind_8: usize,
+    factor_cases: BTreeMap<FactorCase, usize>,
+    with_entries: usize,
+    depths: BTreeMap<usize, usize>,
     /// The mutants that are tried, and for each the first recipe that tells it from 01.
     told_by: BTreeMap<usize, Option<usize>>,
 }
@@ -64,11 +80,15 @@ fn check_named(tally: &mut Tally) {
     for (set, named) in [
         ("01's recipes to try", to_try()),
         ("edges", edges()),
+        ("edges of factors", factors()),
         ("examples", examples()),
     ] {
         println!("{} {set}", named.len());
         for named in &named {
             tally.add(&named.what, prints_as_said(named));
+            if let Some(companion) = &named.companion {
+                tally.add(&named.what, has_companion(named, companion));
+            }
         }
     }
 }
@@ -154,7 +174,8 @@ fn check(seed: u64) -> ExitCode {
     let mut outcomes = Vec::new();
     for seed in [FIXED_SEED, seed] {
         let outcome = check_random(seed, CASES_OF_A_SEED, &mutants, &mut tally);
-        let is_mixed = are_often(&outcome.numbers, NUMBERS, LEAST_OF_A_NUMBER);
+        let numbers = NUMBERS.chain(NUMBERS_OF_FACTORS);
+        let is_mixed = are_often(&outcome.numbers, numbers, LEAST_OF_A_NUMBER);
         tally.add("each number is answered often enough", is_mixed);
         let deciding = Conflict::DECIDING
             .into_iter()
@@ -162,6 +183,7 @@ fn check(seed: u64) -> ExitCode {
         let wanted = deciding.chain([(Conflict::MarksLowerFirst, false)]);
         let is_mixed = are_often(&outcome.conflicts, wanted, LEAST_OF_A_CONFLICT);
         tally.add("each conflict is there often enough", is_mixed);
+        check_factors(&outcome, &mut tally);
         outcomes.push(outcome);
     }
 
@@ -188,6 +210,19 @@ fn check(seed: u64) -> ExitCode {
     tally.end()
 }
 
+/// There was enough of what factors are about.
+fn check_factors(outcome: &Outcome, tally: &mut Tally) {
+    let are_there = outcome.with_kind_8 >= LEAST_WITH_KIND_8;
+    tally.add("there are kind 8 records in every second recipe", are_there);
+    let cases = &outcome.factor_cases;
+    let is_mixed = are_often(cases, FactorCase::ALL, LEAST_OF_A_FACTOR_CASE);
+    tally.add("each case of factors is there often enough", is_mixed);
+    let are_there = outcome.with_entries >= LEAST_WITH_ENTRIES;
+    tally.add("accepted recipes have entries often enough", are_there);
+    let is_mixed = are_often(&outcome.depths, DEPTHS, LEAST_OF_A_DEPTH);
+    tally.add("there is a factor at each depth often enough", is_mixed);
+}
+
 fn prints_as_said(named: &Named) -> bool {
     let Named {
         recipe,
@@ -206,6 +241,20 @@ fn prints_as_said(named: &Named) -> bool {
     }) && complaint(recipe, &[*room], &Random::new(FIXED_SEED)).is_none()
 }
 
+fn has_companion(named: &Named, companion: &str) -> bool {
+    WITH_FACTORS.iter().all(|(program, flatten)| {
+        let rooms = [named.room, MAX_RECORDS * ENTRY];
+        let (answer, [_, output]) = flattened(rooms, |table, companion| {
+            flatten(&named.recipe, table, companion)
+        });
+        let shown = shown_entries(&answer, &output);
+        if shown != companion {
+            println!("{program} has for {} the companion\n{shown}", named.what);
+        }
+        shown == companion
+    })
+}
+
 impl Outcome {
     fn trying(mutants: impl Iterator<Item = usize>) -> Self {
         Outcome {
@@ -213,6 +262,10 @@ impl Outcome {
             differing: 0,
             numbers: BTreeMap::new(),
             conflicts: BTreeMap::new(),
+            with_kind_8: 0,
+            factor_cases: BTreeMap::new(),
+            with_entries: 0,
+            depths: BTreeMap::new(),
             told_by: mutants.map(|k| (k, None)).collect(),
         }
     }
@@ -254,17 +307,49 @@ impl Outcome {
                 *self.conflicts.entry(conflict).or_default() += 1;
             }
         }
+        self.count_factors(recipe);
+        let rooms = [room, random.pick(&companion_rooms(recipe, random))];
+        let right = flattened(rooms, |table, companion| {
+            recipe::flatten_with_factors(recipe, table, companion)
+        });
         for (&k, told_by) in &mut self.told_by {
             // A mutant is run until it is told, since the slow program is slow.
-            if told_by.is_none() {
-                let mut theirs = pattern(room);
-                let their_answer = slow::flatten(recipe, &mut theirs, &mutants[k]);
-                if their_answer != answer || theirs != output {
-                    *told_by = Some(self.recipes);
-                }
+            let is_told = || {
+                let theirs = flattened(rooms, |table, companion| {
+                    slow::flatten_with_factors(recipe, table, companion, &mutants[k])
+                });
+                theirs != right
+            };
+            if told_by.is_none() && is_told() {
+                *told_by = Some(self.recipes);
             }
         }
         self.recipes += 1;
+    }
+
+    fn count_factors(&mut self, recipe: &[u8]) {
+        let is_kind_8 = |record: &Record| matches!(record, Record::Factors { .. });
+        if decode(recipe).iter().any(is_kind_8) {
+            self.with_kind_8 += 1;
+            for case in factor_cases(recipe) {
+                *self.factor_cases.entry(case).or_default() += 1;
+            }
+        }
+        let Ok(flat) = recipe::judge(recipe) else {
+            return;
+        };
+        let rooms = [RECORD * flat.count(), ENTRY * flat.entries()];
+        let (_, [_, companion]) = flattened(rooms, |table, companion| {
+            recipe::flatten_with_factors(recipe, table, companion)
+        });
+        self.with_entries += usize::from(!companion.is_empty());
+        let is_filled = |entry: &[u8], field: usize| entry[1 + field * FIELD] != 0;
+        for depth in DEPTHS {
+            let has_factor = |entry: &[u8]| is_filled(entry, depth) || is_filled(entry, 4 + depth);
+            if companion.chunks(ENTRY).any(has_factor) {
+                *self.depths.entry(depth).or_default() += 1;
+            }
+        }
     }
 
     fn print(&self, what: &str, start: Instant) {
@@ -279,5 +364,24 @@ impl Outcome {
             };
             println!("  {conflict:?} {decides} {count} times");
         }
+        let Outcome {
+            with_kind_8,
+            factor_cases,
+            with_entries,
+            depths,
+            ..
+        } = self;
+        println!("  kind 8 in {with_kind_8}: {factor_cases:?}");
+        println!("  entries in {with_entries}, with factors at the depths {depths:?}");
     }
+}
+
+/// What a call that flattens with factors answers, and what it writes into outputs of these lengths.
+fn flattened(
+    rooms: [usize; 2],
+    flatten: impl Fn(&mut [u8], &mut [u8]) -> FactorsAnswer,
+) -> (FactorsAnswer, [Vec<u8>; 2]) {
+    let [mut table, mut companion] = rooms.map(pattern);
+    let answer = flatten(&mut table, &mut companion);
+    (answer, [table, companion])
 }

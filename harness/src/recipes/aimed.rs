@@ -143,6 +143,47 @@ pub fn long_chain(random: &Random) -> Draft {
     shuffled(&recipe, random)
 }
 
+/// Reactions and rate rules on each level, and factors, some of them replaced one level up.
+pub fn rates(random: &Random) -> Draft {
+    let depth = random.pick(&[1, 2, 3, 4, 4, 4]);
+    let mut recipe = String::new();
+    for level in 0..=depth {
+        let mut records = vec!["parameter f".into(), "parameter g".into()];
+        let rate = random.pick(&[
+            "reaction r",
+            "rate-rule w -> g",
+            "reaction r\nrate-rule w -> f",
+        ]);
+        if level == depth || random.below(2) == 0 {
+            records.push(rate.into());
+        }
+        if level < depth {
+            let submodels = if random.below(4) == 0 {
+                &["a", "b"][..]
+            } else {
+                &["a"]
+            };
+            for name in submodels {
+                records.push(format!("submodel {name} of m{}", level + 1));
+                records.push(match random.below(8) {
+                    0 => format!("factors {name}"),
+                    1 => format!("factors {name} time f"),
+                    2 => format!("factors {name} extent g"),
+                    3 => continue,
+                    _ => format!("factors {name} time f extent g"),
+                });
+                for factor in ["f", "g"] {
+                    if random.below(3) == 0 {
+                        records.push(format!("replace {name}.{factor} by {factor}"));
+                    }
+                }
+            }
+        }
+        add_definition(&mut recipe, level, records, random);
+    }
+    shuffled(&recipe, random)
+}
+
 /// Names that begin with a submodel's name and underscores, around it and below it.
 pub fn prefixes(random: &Random) -> Draft {
     let mut recipe = String::new();

@@ -2,6 +2,7 @@
 //! faults in its records, and faults in its bytes.
 
 use super::draft::{fresh_port, pick, Draft};
+use super::factors::{OF_19, OF_20};
 use super::{Field, Part, Record, Target, BLANK, KINDS};
 use crate::other::{MAX_RECIPE, NAME};
 use crate::random::Random;
@@ -226,6 +227,8 @@ pub const ANY: &[Fault] = &[
     |draft, random| random.pick(OF_MARKS)(draft, random),
     |draft, random| random.pick(OF_MARKS)(draft, random),
     |draft, random| random.pick(OF_MARKS)(draft, random),
+    // 19, 20.
+    |draft, random| random.pick(random.pick(&[OF_19, OF_20]))(draft, random),
     // 10, 5, 12: another class.
     |draft, random| {
         *any_class(draft, random)? = 1 + random.below(7) as u8;

@@ -5,6 +5,7 @@ pub mod aimed;
 pub mod damage;
 pub mod draft;
 pub mod enumerate;
+pub mod factors;
 pub mod flat_names;
 pub mod generate;
 pub mod named;
@@ -12,10 +13,10 @@ pub mod proved;
 pub mod sized;
 pub mod text;
 
-use crate::bandrolt::Answer;
+use crate::bandrolt::{Answer, FactorsAnswer};
 use crate::other::recipe::flatten;
 use crate::other::rules::before_zero;
-use crate::other::{FIELD, NAME, RECORD};
+use crate::other::{ENTRY, FIELD, NAME, RECORD};
 use crate::tables::field;
 use std::slice::from_mut;
 
@@ -183,16 +184,29 @@ pub fn printed(answer: &Answer, table: &[u8]) -> String {
     if answer.number != 0 {
         return format!("refused {} at {}\n", answer.number, answer.place);
     }
+    let line = |record: &[u8]| format!("{} {}\n", record[0], fields(record).join(" "));
+    let records = table.chunks_exact(RECORD).take(answer.count as usize);
+    format!("flat {}\n", answer.count) + &records.map(line).collect::<String>()
+}
+
+/// A companion's entries, each with its time fields and its extent fields, as an example file has them.
+pub fn shown_entries(answer: &FactorsAnswer, companion: &[u8]) -> String {
+    let line = |entry: &[u8]| {
+        let fields = fields(entry);
+        let [time, extent] = [1..5, 5..9].map(|fields_of| fields[fields_of].join(" "));
+        format!("{} time {time} extent {extent}\n", fields[0])
+    };
+    let entries = companion.chunks_exact(ENTRY).take(answer.entries as usize);
+    entries.map(line).collect()
+}
+
+/// The names in a record of a table.
+fn fields(record: &[u8]) -> Vec<String> {
     let shown = |field: &[u8]| match before_zero(field) {
         [] => "-".into(),
         name => String::from_utf8_lossy(name).into_owned(),
     };
-    let line = |record: &[u8]| {
-        let fields: Vec<String> = record[1..].chunks(FIELD).map(shown).collect();
-        format!("{} {}\n", record[0], fields.join(" "))
-    };
-    let records = table.chunks_exact(RECORD).take(answer.count as usize);
-    format!("flat {}\n", answer.count) + &records.map(line).collect::<String>()
+    record[1..].chunks(FIELD).map(shown).collect()
 }
 
 /// What 01's printing program prints of a recipe, with the other program's flattening into so many bytes.

@@ -1,5 +1,5 @@
 //! 01's "Recipes to try", the edges of its sentences, and the example files,
-//! each with what 01's printing program prints of it.
+//! each with what 01's printing program prints of it, and some with the entries of their companion.
 
 use super::aimed::chain;
 use super::damage::padded;
@@ -15,6 +15,15 @@ pub struct Named {
     pub recipe: Vec<u8>,
     pub room: usize,
     pub prints: String,
+    pub companion: Option<String>,
+}
+
+impl Named {
+    fn with_companion(self, entries: &str) -> Self {
+        let lines = entries.lines().flat_map(|line| [line.trim(), "\n"]);
+        let companion = Some(lines.collect());
+        Named { companion, ..self }
+    }
 }
 
 /// The files of examples/, with what they say that they give.
@@ -35,14 +44,16 @@ pub fn examples() -> Vec<Named> {
         "chain-through-replaced-by",
         "port-onto-gone",
         "figure-8",
+        "hours-and-seconds",
     ];
     let named = |(what, text): (&str, &str)| {
-        let Example { recipe, gives } = parse_example(text).expect("an example file");
+        let example = parse_example(text).expect("an example file");
         Named {
             what: format!("examples/{what}.recipe"),
-            recipe,
+            recipe: example.recipe,
             room: ROOM,
-            prints: gives.expect("what the example gives"),
+            prints: example.gives.expect("what the example gives"),
+            companion: example.companion,
         }
     };
     files.into_iter().map(named).collect()
@@ -68,6 +79,7 @@ fn named(what: &str, recipe: &str, prints: &str) -> Named {
         recipe: parse(recipe).expect("a recipe"),
         room: ROOM,
         prints: prints.trim_start().to_owned() + "\n",
+        companion: None,
     }
 }
 
@@ -95,6 +107,7 @@ pub fn to_try() -> Vec<Named> {
         recipe: r.recipe.clone(),
         room,
         prints: prints.into(),
+        companion: None,
     };
     let with_409 = with_room("R with 409 output bytes", 409, "refused 13 at 0\n");
     let with_410 = with_room("R with 410 output bytes", 410, R_PRINTED);
@@ -188,6 +201,116 @@ fn longest_lines(count: usize) -> (Vec<u8>, String) {
         prints += &format!("5 {prefixes}{name} {prefixes}the_reaction {prefixes}the_species1\n");
     }
     (parse(&recipe).expect("a recipe"), prints)
+}
+
+/// Where 02's sentences on factors could be read in another way.
+pub fn factors() -> Vec<Named> {
+    vec![
+        named("kind 8 as the first record", "factors a", "refused 2 at 0"),
+        named(
+            "kind 8 cut short",
+            "model t\nbytes 08 61 00 00 00 00 00 00 00 00 00 00 00
+             bytes 00 00 00 00 00 00 00 00 00 00 00 00 00 00 00 00 00 00 00 00 00 00 00",
+            "refused 2 at 13",
+        ),
+        named(
+            "factors of a blank",
+            "model t\nfactors -",
+            "refused 3 at 13",
+        ),
+        named(
+            "factors of a name with an underscore at its end",
+            "model t\nfactors a_",
+            "refused 19 at 13",
+        ),
+        named(
+            "both factors blank, before the submodel",
+            "model t\nfactors a\nsubmodel a of m\nmodel m\nreaction r",
+            "flat 1\n4 a__r - -",
+        )
+        .with_companion("a__r time - - - - extent - - - -"),
+        named(
+            "factors of an element",
+            "model t\nparameter a\nfactors a",
+            "refused 19 at 51",
+        ),
+        named(
+            "blank factors given twice",
+            "model t\nsubmodel a of m\nfactors a\nfactors a\nmodel m",
+            "refused 19 at 75",
+        ),
+        named(
+            "factors of no submodel, in an unused definition",
+            "model t\nmodel u\nfactors a",
+            "refused 19 at 26",
+        ),
+        named(
+            "19 goes before 6",
+            "model t\nsubmodel a of t\nfactors b",
+            "refused 19 at 38",
+        ),
+        named(
+            "5 goes before 19",
+            "model t\nfactors b\nsubmodel a of m",
+            "refused 5 at 50",
+        ),
+        named(
+            "12 goes before 20",
+            "model t\nsubmodel a of m\nfactors a time x\nspecies s\nmodel m",
+            "refused 12 at 75",
+        ),
+        named(
+            "a factor that is not there, in an unused definition",
+            "model t\nmodel u\nsubmodel a of m\nfactors a time x\nmodel m",
+            "flat 0",
+        )
+        .with_companion(""),
+        named(
+            "a factor that is not there, and no entry would show it",
+            "model t\nsubmodel a of m\nfactors a extent x\nmodel m",
+            "refused 20 at 38",
+        ),
+        named(
+            "a submodel's name for a factor",
+            "model t\nsubmodel a of m\nfactors a time a\nmodel m",
+            "refused 20 at 38",
+        ),
+        named(
+            "an element of the inner definition for a factor",
+            "model t\nsubmodel a of m\nfactors a time g\nmodel m\nparameter g",
+            "refused 20 at 38",
+        ),
+        named(
+            "a reaction for a factor",
+            "model t\nreaction r\nsubmodel a of m\nfactors a extent r\nmodel m",
+            "refused 20 at 76",
+        ),
+        named(
+            "a factor that is deleted in one of two instances",
+            "model t\nsubmodel a of m\nsubmodel b of m\ndelete b.g
+             model m\nparameter g\nsubmodel c of n\nfactors c time g\nmodel n\nreaction r",
+            "refused 20 at 165",
+        ),
+        named(
+            "a factor replaced by one that is deleted",
+            "model t\nsubmodel a of m\ndelete a.f
+             model m\nparameter f\nsubmodel b of n\nreplace b.g by f
+             model n\nparameter g\nsubmodel c of o\nfactors c extent g\nmodel o",
+            "refused 20 at 254",
+        ),
+        named(
+            "a factor on the first of four levels and one on the last",
+            "model m0\nparameter f\nrate-rule w -> f\nsubmodel a of m1\nfactors a time f
+             model m1\nsubmodel b of m2\nmodel m2\nsubmodel c of m3
+             model m3\nparameter g\nsubmodel d of m4\nfactors d extent g
+             model m4\nreaction r",
+            "flat 4\n3 f - -\n6 w - f\n3 a__b__c__g - -\n4 a__b__c__d__r - -",
+        )
+        .with_companion(
+            "w time - - - - extent - - - -
+             a__b__c__d__r time f - - - extent - - - a__b__c__g",
+        ),
+    ]
 }
 
 /// Where 01's sentences could be read in another way, and where a program might be led astray.
@@ -308,6 +431,7 @@ pub fn edges() -> Vec<Named> {
             recipe,
             room: ROOM,
             prints: prints.into(),
+            companion: None,
         });
     };
     // The changes of docs/PICTURE.md.

@@ -23,7 +23,8 @@
 //!
 //! A blank name is `-`, or nothing beside the dot or colon of a target; a blank parent, reference or
 //! factor is left out. After `#` comes a remark, which printing uses for the record's place. Indentation is free.
-//! In an example file a line `gives` follows, and then what 01's printing program prints.
+//! In an example file a line `gives` follows, and then what 01's printing program prints; then there may be a line
+//! `companion`, and the entries of the companion.
 
 use super::{decode, encode, Field, Part, Record, Target, BLANK};
 use crate::other::rules::before_zero;
@@ -142,25 +143,34 @@ fn is_of_name(c: char) -> bool {
     c.is_ascii_alphanumeric() || c == '_'
 }
 
-/// An example file: the recipe, and what 01's printing program prints of it, if the file says it.
+/// An example file: the recipe, and what 01's printing program prints of it and its companion, if the file says it.
 pub struct Example {
     pub recipe: Vec<u8>,
     pub gives: Option<String>,
+    pub companion: Option<String>,
 }
 
 pub fn parse_example(text: &str) -> Result<Example, String> {
     let lines: Vec<&str> = text.lines().map(str::trim).collect();
-    let gives = lines.iter().position(|&line| line == "gives");
-    let recipe = &lines[..gives.unwrap_or(lines.len())];
+    let (lines, companion) = parted(&lines, "companion");
+    let (recipe, gives) = parted(lines, "gives");
+    let said = |lines: &[&str]| {
+        let lines = lines.iter().filter(|line| !line.is_empty());
+        lines.flat_map(|line| [line, "\n"]).collect()
+    };
     Ok(Example {
         recipe: parse(&recipe.join("\n"))?,
-        gives: gives.map(|i| {
-            lines[i + 1..]
-                .iter()
-                .flat_map(|line| [line, "\n"])
-                .collect()
-        }),
+        gives: gives.map(said),
+        companion: companion.map(said),
     })
+}
+
+/// The lines before and behind a line.
+fn parted<'a, 'b>(lines: &'a [&'b str], at: &str) -> (&'a [&'b str], Option<&'a [&'b str]>) {
+    match lines.iter().position(|&line| line == at) {
+        Some(i) => (&lines[..i], Some(&lines[i + 1..])),
+        None => (lines, None),
+    }
 }
 
 /// The bytes of a recipe that is given as text.

@@ -11,8 +11,8 @@ pub struct Rules {
     /// Is this the element's name?
     is_named: fn(&Element, &[u8]) -> bool,
     gone_are_found: bool,
-    /// Is a name that is none refused before the recipe?
-    name_goes_first: bool,
+    /// Is a name that is none refused before a recipe with this number?
+    name_goes_before: fn(u64) -> bool,
     /// What becomes of the way to the element.
     bend_route: fn(&mut Route),
 }
@@ -22,7 +22,7 @@ impl Default for Rules {
         Rules {
             is_named: |element, name| name == field(&element.flat_name),
             gone_are_found: false,
-            name_goes_first: false,
+            name_goes_before: |_| false,
             bend_route: |_| {},
         }
     }
@@ -47,7 +47,11 @@ impl Rules {
             (self.gone_are_found || !element.is_gone) && (self.is_named)(element, name)
         };
         let found = match tree {
-            Err(_) if self.name_goes_first && before_zero(name).is_empty() => Err(unnamed),
+            Err(Refusal { number, .. })
+                if (self.name_goes_before)(*number) && before_zero(name).is_empty() =>
+            {
+                Err(unnamed)
+            }
             Err(refusal) => Err(*refusal),
             Ok(elements) => elements.iter().find(is_found).ok_or(unnamed),
         };
@@ -119,6 +123,9 @@ pub const MUTANTS: &[(&str, Bend)] = &[
         r.bend_route = |route| route.element += 1
     }),
     ("18 goes before the recipe's refusal", |r| {
-        r.name_goes_first = true
+        r.name_goes_before = |_| true
+    }),
+    ("18 goes before 20", |r| {
+        r.name_goes_before = |number| number == 20
     }),
 ];
