@@ -1,5 +1,5 @@
 # Bandrolt: try it, run it, test it, measure it. What each target needs is said if it is missing.
-LIBRARIES = composer flat_table origins
+LIBRARIES = composer flat_table origins factors
 ARCHIVES = $(LIBRARIES:%=target/staticlib/lib%.a)
 PROGRAM = target/bin/bandrolt
 SOURCES = crates.txt $(shell find crates -name '*.rt' -o -name '*.antt')
@@ -47,6 +47,7 @@ bench: lib
 	@$(CARGO) bench
 	@$(CARGO) bench_recipes
 	@$(CARGO) bench_origins
+	@$(CARGO) bench_factors
 
 # The static libraries, target/staticlib/lib*.a. Making one proves its crate once more, so it is done once.
 lib: $(ARCHIVES)

@@ -1,6 +1,6 @@
-/* Bandrolt's calls, for C99 and C++; link with libcomposer.a, libflat_table.a and liborigins.a.
-   They flatten a recipe, tell whether a flat table is closed, and walk back from a flat name to the recipe's records,
-   as documents 01 and 02 say it. */
+/* Bandrolt's calls, for C99 and C++; link with libcomposer.a, libflat_table.a, liborigins.a and libfactors.a.
+   They flatten a recipe, by itself or with its time and extent factors, tell whether a flat table is closed, and walk
+   back from a flat name to the recipe's records, as documents 01 and 02 say it. */
 
 #ifndef BANDROLT_H
 #define BANDROLT_H
@@ -53,7 +53,7 @@ typedef struct bandrolt_table_answer {
 bandrolt_table_answer bandrolt_check_table(const uint8_t *table, size_t length);
 
 typedef struct bandrolt_answer {
-    uint64_t number; /* 0 for an accepted recipe, or else 1 to 13 */
+    uint64_t number; /* 0 for an accepted recipe, or else 1 to 13, 19 or 20 */
     uint64_t place;  /* offset of the record at fault, or 0 */
     uint64_t count;  /* number of flat records, or 0 for a refusal */
     uint64_t bytes;  /* what they take of the table: 205 for each */
@@ -65,8 +65,8 @@ typedef struct bandrolt_answer {
    beginning of `table`, in the order of the tree, and bandrolt_check_table finds them closed, with the same count.
    The bytes after them are unchanged. 209,920 bytes of room suffice for every recipe.
 
-   Any other recipe gives both counts 0, an unchanged `table`, and the lowest of these numbers that applies, with its
-   lowest place:
+   Any other recipe gives both counts 0, an unchanged `table`, and the first of these numbers that applies, in this
+   order, with its lowest place:
 
      1, at 0: the recipe is empty, or over 16,384 bytes;
      2, at a record: its kind is unknown, its body is cut short, or it is the first and no model;
@@ -74,6 +74,8 @@ typedef struct bandrolt_answer {
         a submodel's own name ends with an underscore;
      4, at a record: it repeats a name, or is a definition's second replaced-by with one owner;
      5, at a record: what it names is not declared, or its parent is against the class table;
+    19, at a kind 8 record: its submodel is no submodel of the definition, or was given factors by an earlier one,
+        in any definition;
      6, at a model: its definition reaches itself;
      7, at 0: there are over 64 instances with main, or over 1,024 elements in the tree, or it is over 4 deep;
      8, at a port or mark: its target doesn't exist, in any definition;
@@ -82,6 +84,8 @@ typedef struct bandrolt_answer {
     11, at a replaced-by: its target is gone;
     12, at an element: it survives, and its reference is against its class, names no element of its definition,
         or leads to one that is gone or of a wrong class;
+    20, at a kind 8 record: a factor names no element of the definition, or leads to one that is gone or no parameter,
+        somewhere in the tree;
     13, at 0: `room` is less than 205 for each flat record.
 
    The call reads the recipe alone, writes within `table` alone, ends on all input, keeps no state and allocates
@@ -90,6 +94,33 @@ typedef struct bandrolt_answer {
 #define BANDROLT_FLATTEN_STACK 131072
 
 bandrolt_answer bandrolt_flatten(const uint8_t *recipe, size_t length, uint8_t *table, size_t room);
+
+typedef struct bandrolt_factors_answer {
+    uint64_t number, place, count, bytes; /* as bandrolt_flatten */
+    uint64_t entries;                     /* companion entries, 613 bytes each; 0 on a refusal */
+} bandrolt_factors_answer;
+
+/* Flattens the `length` bytes at `recipe` into the `room` bytes at `table`, and writes the time and extent factors of its
+   reactions and rate rules into the `companion_room` bytes at `companion`.
+
+   An accepted recipe gives what bandrolt_flatten gives, the same table, and the number of entries. These stand at the
+   beginning of `companion`: one for each flat record of class 4 or 6, in the order of the table. An entry is 613 bytes:
+   the byte 8, then nine fields of 68 bytes, zero padded: the record's name, four time fields and four extent fields.
+   Field i of four is for the submodel at depth i on the way from main to the record, and has the flat name of the
+   parameter that its factor leads to; it is blank if there is no such submodel, or if that has no such factor. So each
+   filled field is the name of a flat record of class 3. The bytes after the records and after the entries are unchanged.
+   627,712 bytes of room suffice for every companion.
+
+   Any other recipe gives count, bytes and entries 0, both outputs unchanged, and the number and place of
+   bandrolt_flatten, where 13, at 0, also says that `companion_room` is less than 613 for each entry.
+
+   The call reads the recipe alone, writes within `table` and `companion` alone, ends on all input, keeps no state and
+   allocates nothing. The three must not overlap; each may be null only with length 0. It needs less than
+   BANDROLT_FLATTEN_WITH_FACTORS_STACK bytes of stack. */
+#define BANDROLT_FLATTEN_WITH_FACTORS_STACK 131072 /* TODO: to be measured */
+
+bandrolt_factors_answer bandrolt_flatten_with_factors(const uint8_t *recipe, size_t length, uint8_t *table, size_t room,
+                                                      uint8_t *companion, size_t companion_room);
 
 typedef struct bandrolt_origin {
     uint64_t number;      /* 0, or else as bandrolt_flatten without 13, or 18 */
@@ -106,10 +137,11 @@ typedef struct bandrolt_origin {
    in, the offsets of their records' kind bytes from main downward, and that of the element's record. Every flat record's
    name has one, each another, and flattening names that element so again. Unused offsets are 0.
 
-   Any other recipe or name gives depth and all offsets 0, and the lowest of these numbers that applies, with its lowest
+   Any other recipe or name gives depth and all offsets 0, and the first of these numbers that applies, with its lowest
    place:
 
-     1 to 12: the recipe is refused, whatever the name; the places are those of bandrolt_flatten. 13 doesn't apply;
+     1 to 12, 19, 20: the recipe is refused, whatever the name; order and places are those of bandrolt_flatten. 13 doesn't
+        apply;
      18, at 0: the recipe is accepted, and the name is no flat record's: `name_length` is not 68, or the 68 bytes, the
         zeros behind the name among them, are in no flat record as its name. The name of an element that is gone is
         none, nor is a blank. A name is never cut or padded to fit.

@@ -76,6 +76,14 @@ static inline void put_replacement(recipe *r, const char *owner, const char *sub
     put_target(r, submodel, way, target);
 }
 
+static inline void put_factors(recipe *r, const char *submodel, const char *time, const char *extent)
+{
+    put_byte(r, 8);
+    put_name(r, submodel);
+    put_name(r, time);
+    put_name(r, extent);
+}
+
 /* The cell of document 01's sample R. */
 static inline void put_cell(recipe *r)
 {

@@ -1,5 +1,5 @@
-/* Plays the solver: has recipes flattened and the tables checked, hands tables of its own to the check, and asks where
-   flat names come from.
+/* Plays the solver: has recipes flattened, with their factors, too, and the tables checked, hands tables of its own to the
+   check, and asks where flat names come from.
    `solver` compares the answers with 01's; `solver recipe FILE` flattens the bytes of a recipe and checks the table,
    `solver table FILE` checks a table; both have status 1 if it is refused. */
 
@@ -11,7 +11,7 @@
 #include <stdlib.h>
 #include <string.h>
 
-enum { FIELD = 68, RECORD = 205, MAX_RECORDS = 1024, PATTERN = 0xA5 };
+enum { FIELD = 68, RECORD = 205, ENTRY = 613, MAX_RECORDS = 1024, PATTERN = 0xA5 };
 
 static int passed, failed;
 
@@ -23,6 +23,32 @@ static void *allocate(size_t length)
         exit(2);
     }
     return bytes;
+}
+
+/* A copy in a block with no byte to spare, so that valgrind sees a call read beyond it; null for length 0. */
+static uint8_t *lend(const uint8_t *bytes, size_t length)
+{
+    uint8_t *lent = length > 0 ? allocate(length) : NULL;
+    if (lent != NULL) memcpy(lent, bytes, length);
+    return lent;
+}
+
+/* An output in such a block, filled with the pattern. */
+static uint8_t *lend_output(size_t room)
+{
+    uint8_t *lent = room > 0 ? allocate(room) : NULL;
+    if (lent != NULL) memset(lent, PATTERN, room);
+    return lent;
+}
+
+/* Whether an output has these bytes at its beginning, and the pattern behind them. */
+static int is_written(const uint8_t *output, size_t room, const uint8_t *bytes, size_t length)
+{
+    int holds = length <= room && (length == 0 || memcmp(output, bytes, length) == 0);
+    for (size_t i = length; i < room; i++) {
+        holds = holds && output[i] == PATTERN;
+    }
+    return holds;
 }
 
 /* Writes the record with this index; each text has at most 68 characters. */
@@ -40,12 +66,7 @@ static void put(uint8_t *table, size_t index, uint8_t class_byte,
 static void expect(const char *what, const uint8_t *table, size_t length,
                    uint64_t number, uint64_t place, uint64_t count)
 {
-    /* The check is given a block with no byte to spare, so valgrind sees it read beyond. */
-    uint8_t *given = NULL;
-    if (length > 0) {
-        given = allocate(length);
-        memcpy(given, table, length);
-    }
+    uint8_t *given = lend(table, length);
     bandrolt_table_answer answer = bandrolt_check_table(given, length);
     int unchanged = length == 0 || memcmp(given, table, length) == 0;
     free(given);
@@ -112,21 +133,15 @@ static void check_own_tables(void)
 static void expect_flat(const char *what, const recipe *r, size_t room, uint64_t number, uint64_t place,
                         const uint8_t *table, uint64_t count)
 {
-    /* Blocks with no byte to spare, as above. */
-    uint8_t *given = r->length > 0 ? allocate(r->length) : NULL;
-    uint8_t *output = room > 0 ? allocate(room) : NULL;
+    uint8_t *given = lend(r->bytes, r->length);
+    uint8_t *output = lend_output(room);
     size_t bytes = (size_t)count * RECORD;
     int holds;
 
-    if (given != NULL) memcpy(given, r->bytes, r->length);
-    if (output != NULL) memset(output, PATTERN, room);
     bandrolt_answer answer = bandrolt_flatten(given, r->length, output, room);
     holds = answer.number == number && answer.place == place && answer.count == count && answer.bytes == bytes;
     holds = holds && (given == NULL || memcmp(given, r->bytes, r->length) == 0);
-    holds = holds && (bytes == 0 || memcmp(output, table, bytes) == 0);
-    for (size_t i = bytes; i < room; i++) {
-        holds = holds && output[i] == PATTERN;
-    }
+    holds = holds && is_written(output, room, table, bytes);
     bandrolt_table_answer check = bandrolt_check_table(output, holds ? bytes : 0);
     holds = holds && check.number == 0 && check.place == 0 && check.count == count;
     free(given);
@@ -165,19 +180,89 @@ static void flatten_own_recipes(void)
     expect_flat("sample R with a deletion", &deletion, 1000, 12, 153, NULL, 0);
 }
 
+/* Flattens with factors; the outputs must be `table` and `companion` where the recipe is accepted. */
+static void expect_factors(const char *what, const recipe *r, size_t room, size_t companion_room,
+                           bandrolt_factors_answer expected, const uint8_t *table, const uint8_t *companion)
+{
+    uint8_t *given = lend(r->bytes, r->length);
+    uint8_t *output = lend_output(room), *entries = lend_output(companion_room);
+    int holds;
+
+    bandrolt_factors_answer answer =
+        bandrolt_flatten_with_factors(given, r->length, output, room, entries, companion_room);
+    holds = memcmp(&answer, &expected, sizeof answer) == 0;
+    holds = holds && (given == NULL || memcmp(given, r->bytes, r->length) == 0);
+    holds = holds && is_written(output, room, table, expected.bytes);
+    holds = holds && is_written(entries, companion_room, companion, expected.entries * ENTRY);
+    free(given);
+    free(output);
+    free(entries);
+
+    if (holds) {
+        passed++;
+    } else {
+        failed++;
+        printf("FAILED: %s: number %" PRIu64 ", place %" PRIu64 ", count %" PRIu64 ", bytes %" PRIu64
+               ", entries %" PRIu64 "\n",
+               what, answer.number, answer.place, answer.count, answer.bytes, answer.entries);
+    }
+}
+
+static void flatten_with_factors(void)
+{
+    static const recipe empty;
+    static recipe only_top, one_level, twice, deleted;
+    const bandrolt_factors_answer accepted = { 0, 0, 2, 2 * RECORD, 1 }, too_short = { .number = 13 };
+    uint8_t table[2 * RECORD], companion[ENTRY] = { 8 };
+
+    put_model(&only_top, "top");
+    /* The time factor of a is f; its reaction has an entry. */
+    put_model(&one_level, "top");
+    put_element(&one_level, "f", 3, "", "");
+    put_submodel(&one_level, "a", "cell");
+    put_factors(&one_level, "a", "f", "");
+    twice = one_level;
+    deleted = one_level;
+    put_model(&one_level, "cell");
+    put_element(&one_level, "r", 4, "", "");
+    put(table, 0, 3, "f", "", "");
+    put(table, 1, 4, "a__r", "", "");
+    memcpy(companion + 1, "a__r", 4);
+    memcpy(companion + 1 + FIELD, "f", 1);
+    put_factors(&twice, "a", "", "f");
+    put_model(&twice, "cell");
+    /* An extent factor of b that is deleted in a. */
+    put_deletion(&deleted, "a", 0, "g");
+    put_model(&deleted, "cell");
+    put_element(&deleted, "g", 3, "", "");
+    put_submodel(&deleted, "b", "low");
+    put_factors(&deleted, "b", "", "g");
+    put_model(&deleted, "low");
+
+    expect_factors("nothing, into nothing", &empty, 0, 0, (bandrolt_factors_answer){ .number = 1 }, NULL, NULL);
+    expect_factors("only model top, into nothing", &only_top, 0, 0, (bandrolt_factors_answer){ 0 }, NULL, NULL);
+    expect_factors("a factor, into 410 and 613 bytes", &one_level, 2 * RECORD, ENTRY, accepted, table, companion);
+    expect_factors("a factor, into longer outputs", &one_level, 1000, 1000, accepted, table, companion);
+    expect_factors("a factor, into 409 and 613 bytes", &one_level, 2 * RECORD - 1, ENTRY, too_short, NULL, NULL);
+    expect_factors("a factor, into 410 and 612 bytes", &one_level, 2 * RECORD, ENTRY - 1, too_short, NULL, NULL);
+    expect_factors("a factor, without a companion", &one_level, 2 * RECORD, 0, too_short, NULL, NULL);
+    expect_factors("factors given twice", &twice, 0, 0, (bandrolt_factors_answer){ 19, 113, 0, 0, 0 }, NULL, NULL);
+    expect_factors("a deleted factor", &deleted, 0, 0, (bandrolt_factors_answer){ 20, 215, 0, 0, 0 }, NULL, NULL);
+    expect_flat("a factor, without the companion", &one_level, 2 * RECORD, 0, 0, table, 2);
+    expect_flat("factors given twice, without the companion", &twice, 0, 19, 113, NULL, 0);
+    expect_flat("a deleted factor, without the companion", &deleted, 0, 20, 215, NULL, 0);
+}
+
 /* Walks back a text that is padded to `name_length` bytes, 69 at most. */
 static void expect_origin(const char *what, const recipe *r, const char *text, size_t name_length,
                           bandrolt_origin expected)
 {
-    /* Blocks with no byte to spare, as above. */
-    uint8_t *given = r->length > 0 ? allocate(r->length) : NULL;
-    uint8_t *name = name_length > 0 ? allocate(name_length) : NULL;
+    uint8_t *given = lend(r->bytes, r->length), *name;
     uint8_t before[FIELD + 1] = { 0 };
     int holds;
 
     memcpy(before, text, strlen(text));
-    if (given != NULL) memcpy(given, r->bytes, r->length);
-    if (name != NULL) memcpy(name, before, name_length);
+    name = lend(before, name_length);
     bandrolt_origin origin = bandrolt_walk_back(given, r->length, name, name_length);
     holds = memcmp(&origin, &expected, sizeof origin) == 0;
     holds = holds && (given == NULL || memcmp(given, r->bytes, r->length) == 0);
@@ -284,6 +369,7 @@ int main(int argc, char **argv)
     }
     check_own_tables();
     flatten_own_recipes();
+    flatten_with_factors();
     walk_back_in_own_recipes();
     printf("%d passed, %d failed\n", passed, failed);
     return failed > 0;

@@ -10,10 +10,20 @@
 #include "bandrolt.h"
 #include "recipe.h"
 
-enum { STACK = 1 << 22, PATTERN = 0xA5, FIELD = 68, RECORD = 205, MOST = 1024, LEVELS = 215, MODELS = 431 };
+enum {
+    STACK = 1 << 22,
+    PATTERN = 0xA5,
+    FIELD = 68,
+    RECORD = 205,
+    ENTRY = 613,
+    MOST = 1024,
+    DEPTH = 4,
+    LEVELS = 215,
+    MODELS = 431
+};
 
-static uint8_t table[RECORD * MOST], output[RECORD * MOST];
-static recipe cycle, ports, sample_r;
+static uint8_t table[RECORD * MOST], output[RECORD * MOST], companion[ENTRY * MOST];
+static recipe cycle, ports, sample_r, factors;
 
 /* Parameters p0000 to p1023, the later ones first: the most records, and none in order. */
 static void fill_table(void) {
@@ -50,6 +60,18 @@ static void fill_recipes(void) {
 
     /* One that is accepted and written. */
     put_sample_r(&sample_r);
+
+    /* A factor on each of four levels, and a reaction below them. */
+    for (int i = 0; i < DEPTH; i++) {
+        snprintf(name, sizeof name, "m%d", i);
+        snprintf(next, sizeof next, "m%d", i + 1);
+        put_model(&factors, name);
+        put_element(&factors, "f", 3, "", "");
+        put_submodel(&factors, "a", next);
+        put_factors(&factors, "a", "f", "f");
+    }
+    put_model(&factors, next);
+    put_element(&factors, "r", 4, "", "");
 }
 
 static void *check_table(void *holds) {
@@ -65,6 +87,19 @@ static void *flatten(void *holds) {
     *(int *)holds &= answer.number == 0 && answer.count == 0;
     answer = bandrolt_flatten(sample_r.bytes, sample_r.length, output, sizeof output);
     *(int *)holds &= answer.number == 0 && answer.count == 2;
+    return NULL;
+}
+
+/* With factors, the number that is answered, and the counts. */
+static int gives(const recipe *r, uint64_t number, uint64_t count, uint64_t entries) {
+    bandrolt_factors_answer answer =
+        bandrolt_flatten_with_factors(r->bytes, r->length, output, sizeof output, companion, sizeof companion);
+    return answer.number == number && answer.count == count && answer.entries == entries;
+}
+
+static void *flatten_with_factors(void *holds) {
+    *(int *)holds = gives(&cycle, 6, 0, 0) && gives(&ports, 0, 0, 0) && gives(&sample_r, 0, 2, 0) &&
+                    gives(&factors, 0, DEPTH + 1, 1);
     return NULL;
 }
 
@@ -115,7 +150,8 @@ int main(void) {
     fill_recipes();
     passed = measure("bandrolt_check_table", check_table, BANDROLT_CHECK_TABLE_STACK);
     passed += measure("bandrolt_flatten", flatten, BANDROLT_FLATTEN_STACK);
+    passed += measure("bandrolt_flatten_with_factors", flatten_with_factors, BANDROLT_FLATTEN_WITH_FACTORS_STACK);
     passed += measure("bandrolt_walk_back", walk_back, BANDROLT_WALK_BACK_STACK);
-    printf("%d passed, %d failed\n", passed, 3 - passed);
-    return passed != 3;
+    printf("%d passed, %d failed\n", passed, 4 - passed);
+    return passed != 4;
 }

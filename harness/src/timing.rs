@@ -38,6 +38,27 @@ pub fn print_series<A>(
     }
 }
 
+/// What is timed on a recipe; the number that it answers comes back.
+pub type Program<'a> = Box<dyn FnMut(&[u8]) -> u64 + 'a>;
+
+/// The head of rows with our flattening of the same recipe beside.
+pub fn print_head_with_flattening(what: &str) {
+    println!(
+        "{what:<50}{:>12}{:>12}{:>8}{:>16}{:>8}",
+        "ours, us", "other, us", "ratio", "flattening, us", "ratio"
+    );
+}
+
+/// Such a row; the programs are ours, the other and our flattening.
+pub fn print_row_with_flattening(what: &str, programs: &mut [Program; 3], recipe: &[u8]) {
+    let [ours, other, flattening] = times(programs, &[recipe.to_vec()]);
+    println!(
+        "{what:<50}{ours:>12.3}{other:>12.3}{:>8.2}{flattening:>16.3}{:>8.2}",
+        ours / other,
+        ours / flattening
+    );
+}
+
 /// Each program's microseconds for one input, in its best round.
 pub fn times<A, const N: usize>(
     programs: &mut [impl FnMut(&[u8]) -> A; N],

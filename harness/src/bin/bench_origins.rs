@@ -6,18 +6,12 @@ use harness::other::{recipe, FIELD, RECORD};
 use harness::recipes::sized::{long_names, one_definition, plant, tree};
 use harness::recipes::text::parse;
 use harness::tables::MAX_RECORDS;
-use harness::timing::times;
+use harness::timing::{print_head_with_flattening, print_row_with_flattening, Program};
 
 const ROOM: usize = MAX_RECORDS * RECORD;
 
-/// What is timed on a recipe; the number that it answers comes back.
-type Program<'a> = Box<dyn FnMut(&[u8]) -> u64 + 'a>;
-
 fn main() {
-    println!(
-        "{:<50}{:>12}{:>12}{:>8}{:>16}{:>8}",
-        "walking back", "ours, us", "other, us", "ratio", "flattening, us", "ratio"
-    );
+    print_head_with_flattening("walking back");
     print_rows("a plant, 64 instances", &plant(64));
     print_rows("16 elements each, 64 instances", &tree(64, "e"));
     print_rows("one definition, 400 elements", &one_definition(400));
@@ -50,10 +44,5 @@ fn print_row(what: &str, recipe: &[u8], name: &[u8], number: u64) {
         Box::new(|recipe| recipe::walk_back(recipe, name).number),
         Box::new(|recipe| flatten(recipe, &mut table).number),
     ];
-    let [ours, other, flattening] = times(&mut programs, &[recipe.to_vec()]);
-    println!(
-        "{what:<50}{ours:>12.3}{other:>12.3}{:>8.2}{flattening:>16.3}{:>8.2}",
-        ours / other,
-        ours / flattening
-    );
+    print_row_with_flattening(what, &mut programs, recipe);
 }
