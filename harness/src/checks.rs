@@ -9,7 +9,7 @@ use crate::other::recipe::{self, slow};
 use crate::other::{table, ENTRY, FIELD, RECORD};
 use crate::random::Random;
 use crate::recipes::{decode, encode, Record};
-use std::collections::HashMap;
+use std::collections::HashSet;
 
 /// What is wrong with the programs' answers to a recipe, with outputs of these lengths. What else a
 /// call is given is drawn.
@@ -166,24 +166,25 @@ fn companion_fault(answer: &FactorsAnswer, table: &[u8], companion: &[u8]) -> Op
     if *rest != pattern(companion.len())[bytes..] {
         return Some("the rest of the companion is changed");
     }
-    let records = table[..answer.flat.bytes as usize].chunks(RECORD);
-    let classes: HashMap<&[u8], u8> = records.map(|r| (&r[1..=FIELD], r[0])).collect();
-    let is_factor = |field: &[u8]| *field == [0; FIELD] || classes.get(field) == Some(&3);
-    let is_entry = |entry: &[u8]| {
-        let mut fields = entry[1..].chunks(FIELD).skip(1);
-        entry[0] == 8 && fields.all(is_factor)
-    };
-    if !written.chunks(ENTRY).all(is_entry) {
-        return Some("an entry's factor is no parameter of the table");
+    let records = || table[..answer.flat.bytes as usize].chunks(RECORD);
+    let rates = records().filter(|record| matches!(record[0], 4 | 6));
+    if !rates.map(name).eq(written.chunks(ENTRY).map(name)) {
+        return Some("its entries are not those of the table's reactions and rate rules");
     }
-    let rates = table[..answer.flat.bytes as usize].chunks(RECORD);
-    let rates = rates.filter(|record| record[0] == 4 || record[0] == 6);
-    let are_named = rates
-        .map(|record| &record[1..=FIELD])
-        .eq(written.chunks(ENTRY).map(|entry| &entry[1..=FIELD]));
-    let is_refused = answer.flat.number != 0;
-    (!are_named || is_refused && answer.entries > 0)
-        .then_some("the entries are not those of the table's reactions and rate rules")
+    let parameters = records().filter(|record| record[0] == 3);
+    let parameters: HashSet<&[u8]> = parameters.map(name).collect();
+    let is_factor = |field: &[u8]| *field == [0; FIELD] || parameters.contains(field);
+    let is_entry = |entry: &[u8]| {
+        let mut factors = entry[1 + FIELD..].chunks(FIELD);
+        entry[0] == 8 && factors.all(is_factor)
+    };
+    let are_entries = written.chunks(ENTRY).all(is_entry);
+    (!are_entries).then_some("an entry's factor is no parameter of the table")
+}
+
+/// The name of a flat record or of an entry.
+fn name(record: &[u8]) -> &[u8] {
+    &record[1..=FIELD]
 }
 
 /// "The main table is as before": an accepted recipe without its kind 8 records has the same.

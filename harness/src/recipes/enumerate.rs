@@ -1,4 +1,4 @@
-//! All choices of a few ports and marks over small skeletons, in every order of the definitions.
+//! All choices of a few ports, marks and factors over small skeletons, in every order of the definitions.
 //! A line with a question mark is a choice; each is there or not.
 
 use super::text;
@@ -10,7 +10,7 @@ struct Skeleton {
 
 /// A mark two levels below a port differs from one directly below only with four definitions, and
 /// only in the place; that is why `m2` has a mark on each side of its port.
-const SKELETONS: [Skeleton; 2] = [
+const SKELETONS: [Skeleton; 3] = [
     Skeleton {
         most: 5,
         text: "
@@ -73,6 +73,38 @@ const SKELETONS: [Skeleton; 2] = [
               compartment v
               species s -> v
               port p = .v
+        ",
+    },
+    Skeleton {
+        most: 4,
+        text: "
+            model top
+              parameter c
+              ? factors a time c
+              submodel a of mid
+              ? factors a extent a
+              ? factors c
+              ? delete a.f
+              ? replace a.f by c
+              ? c replaced by a.f
+            model mid
+              ? factors b time f extent f
+              parameter f
+              submodel b of low
+              reaction r
+              ? factors b time r
+              ? delete b.g
+              ? replace b.g by f
+              ? f replaced by b.g
+            model low
+              parameter g
+              rate-rule w -> g
+              ? factors d extent g
+              submodel d of in
+              ? factors d
+              ? factors d time x
+            model in
+              reaction q
         ",
     },
 ];
