@@ -10,6 +10,7 @@ use crate::other::{table, ENTRY, FIELD, RECORD};
 use crate::random::Random;
 use crate::recipes::{decode, encode, Record};
 use std::collections::HashSet;
+use std::fmt::Debug;
 
 /// What is wrong with the programs' answers to a recipe, with outputs of these lengths. What else a
 /// call is given is drawn.
@@ -61,33 +62,51 @@ pub fn pattern(length: usize) -> Vec<u8> {
     (0..length).map(|i| 0x80 | i as u8).collect()
 }
 
+/// What is at fault in what the first program answers and writes into outputs of these lengths, or how another differs
+/// from it.
+fn disagreement<P, A: PartialEq + Debug, const N: usize>(
+    recipe: &[u8],
+    rooms: [usize; N],
+    programs: &[(&'static str, P)],
+    call: impl Fn(&P, &[u8], &mut [Box<[u8]>; N]) -> A,
+    fault: impl Fn(&A, &[Box<[u8]>; N]) -> Option<&'static str>,
+) -> Option<String> {
+    let run = |(name, program): &(&'static str, P)| {
+        // Boxes have no spare bytes, so valgrind sees what is read or written beyond them.
+        let lent: Box<[u8]> = recipe.into();
+        let mut outputs = rooms.map(|room| pattern(room).into_boxed_slice());
+        let answer = call(program, &lent, &mut outputs);
+        (*name, answer, outputs, lent)
+    };
+    let mut runs = programs.iter().map(run);
+    let (_, answer, outputs, _) = runs.next()?;
+    if let Some(fault) = fault(&answer, &outputs) {
+        return Some(format!("{answer:?} with {rooms:?} bytes: {fault}"));
+    }
+    runs.find_map(|(program, their_answer, theirs, lent)| {
+        if their_answer != answer {
+            Some(format!(
+                "{program} answers {their_answer:?} with {rooms:?} bytes, not {answer:?}"
+            ))
+        } else if theirs != outputs {
+            Some(format!("{program} writes other outputs of {rooms:?} bytes"))
+        } else {
+            (*lent != *recipe).then(|| format!("{program} changes the recipe"))
+        }
+    })
+}
+
 /// The programs answer and write the same, and what they write is closed.
 fn flattening(recipe: &[u8], rooms: &[usize], _: &Random) -> Option<String> {
-    // Boxes have no spare bytes, so valgrind sees what is read or written beyond them.
-    let lent = recipe.to_vec().into_boxed_slice();
-    for &room in rooms {
-        let mut output = pattern(room);
-        let answer = recipe::flatten(recipe, &mut output);
-        if let Some(fault) = fault(&answer, &output) {
-            return Some(format!("{answer:?} with {room} bytes: {fault}"));
-        }
-        for (program, flatten) in &FLATTENERS[1..] {
-            let mut theirs = pattern(room).into_boxed_slice();
-            let their_answer = flatten(&lent, &mut theirs);
-            if their_answer != answer {
-                return Some(format!(
-                    "{program} answers {their_answer:?} with {room} bytes, not {answer:?}"
-                ));
-            }
-            if *theirs != *output {
-                return Some(format!("{program} writes another output of {room} bytes"));
-            }
-            if *lent != *recipe {
-                return Some(format!("{program} changes the recipe"));
-            }
-        }
-    }
-    None
+    rooms.iter().find_map(|&room| {
+        disagreement(
+            recipe,
+            [room],
+            FLATTENERS,
+            |flatten, recipe, [table]| flatten(recipe, table),
+            |answer, [table]| fault(answer, table),
+        )
+    })
 }
 
 /// What an answer and its output have to be, whatever the recipe.
@@ -125,36 +144,20 @@ pub fn companion_rooms(recipe: &[u8], random: &Random) -> Vec<usize> {
 /// The programs answer and write the same with a companion, for each length of the one output with the other exact.
 fn with_factors(recipe: &[u8], rooms: &[usize], random: &Random) -> Option<String> {
     let companions = companion_rooms(recipe, random);
-    let by_companion = companions.iter().map(|&companion| (rooms[0], companion));
-    let by_table = rooms[1..].iter().map(|&room| (room, companions[0]));
-    let lent = recipe.to_vec().into_boxed_slice();
-    for (room, companion_room) in by_companion.chain(by_table) {
-        let [mut table, mut companion] = [room, companion_room].map(pattern);
-        let answer = recipe::flatten_with_factors(recipe, &mut table, &mut companion);
-        let rooms = format!("{room} and {companion_room} bytes");
-        let fault =
-            fault(&answer.flat, &table).or_else(|| companion_fault(&answer, &table, &companion));
-        if let Some(fault) = fault {
-            return Some(format!("{answer:?} with {rooms}: {fault}"));
-        }
-        for (program, flatten) in &WITH_FACTORS[1..] {
-            let [mut their_table, mut theirs] =
-                [room, companion_room].map(|room| pattern(room).into_boxed_slice());
-            let their_answer = flatten(&lent, &mut their_table, &mut theirs);
-            if their_answer != answer {
-                return Some(format!(
-                    "{program} answers {their_answer:?} with {rooms}, not {answer:?}"
-                ));
-            }
-            if *their_table != *table || *theirs != *companion {
-                return Some(format!("{program} writes other outputs of {rooms}"));
-            }
-            if *lent != *recipe {
-                return Some(format!("{program} changes the recipe"));
-            }
-        }
-    }
-    None
+    let by_companion = companions.iter().map(|&companion| [rooms[0], companion]);
+    let by_table = rooms[1..].iter().map(|&room| [room, companions[0]]);
+    by_companion.chain(by_table).find_map(|rooms| {
+        disagreement(
+            recipe,
+            rooms,
+            WITH_FACTORS,
+            |flatten, recipe, [table, companion]| flatten(recipe, table, companion),
+            |answer, [table, companion]| {
+                let fault = fault(&answer.flat, table);
+                fault.or_else(|| companion_fault(answer, table, companion))
+            },
+        )
+    })
 }
 
 /// What a companion has to be beside its table, whatever the recipe.

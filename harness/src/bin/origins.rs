@@ -10,7 +10,7 @@ use harness::random::Random;
 use harness::recipes::enumerate::each_recipe;
 use harness::recipes::flat_names::{damaged, of_elements};
 use harness::recipes::generate::{case, deep};
-use harness::recipes::named::{edges, examples, factors, to_try, Named};
+use harness::recipes::named::{edges, examples, factor_edges, to_try, Named};
 use harness::recipes::proved::{self, WalkSample};
 use harness::recipes::text;
 use harness::report::{are_often, asked, save, Asked, Tally};
@@ -136,7 +136,7 @@ fn print_untold(samples: &[WalkSample]) {
 
 /// 01's recipes, with the names of all their elements.
 fn check_named(outcome: &mut Outcome, tally: &mut Tally) {
-    let named = [to_try(), edges(), factors(), examples()];
+    let named = [to_try(), edges(), factor_edges(), examples()];
     let named: Vec<Named> = named.into_iter().flatten().collect();
     println!("{} of 01's recipes, edges and examples", named.len());
     for named in &named {

@@ -2,7 +2,7 @@
 //! byte, with what the other program's flattening gives; then breaks its input and its output in each way that can be
 //! had here, and looks that it says so. `program FILE`, where FILE is the printing program.
 
-use harness::recipes::named::{edges, examples, factors, to_try, Named, ROOM};
+use harness::recipes::named::{edges, examples, factor_edges, to_try, Named, ROOM};
 use harness::recipes::other_prints;
 use harness::report::Tally;
 use std::fs::File;
@@ -27,7 +27,7 @@ fn main() -> ExitCode {
     };
     // The program lends an output of one length.
     let is_run = |named: &Named| named.room == ROOM;
-    let recipes: Vec<Named> = [to_try(), edges(), factors(), examples()]
+    let recipes: Vec<Named> = [to_try(), edges(), factor_edges(), examples()]
         .into_iter()
         .flatten()
         .filter(is_run)

@@ -12,7 +12,7 @@ use harness::other::{recipe, ENTRY, FIELD, RECORD};
 use harness::random::Random;
 use harness::recipes::enumerate::each_recipe;
 use harness::recipes::generate::case;
-use harness::recipes::named::{edges, examples, factors, to_try, Named};
+use harness::recipes::named::{edges, examples, factor_edges, to_try, Named};
 use harness::recipes::proved::{self, Sample, TableSample};
 use harness::recipes::{decode, printed, shown_entries, text, Record};
 use harness::report::{are_often, asked, save, Asked, Tally};
@@ -80,7 +80,7 @@ fn check_named(tally: &mut Tally) {
     for (set, named) in [
         ("01's recipes to try", to_try()),
         ("edges", edges()),
-        ("edges of factors", factors()),
+        ("edges of factors", factor_edges()),
         ("examples", examples()),
     ] {
         println!("{} {set}", named.len());

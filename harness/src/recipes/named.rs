@@ -204,7 +204,7 @@ fn longest_lines(count: usize) -> (Vec<u8>, String) {
 }
 
 /// Where 02's sentences on factors could be read in another way.
-pub fn factors() -> Vec<Named> {
+pub fn factor_edges() -> Vec<Named> {
     vec![
         named("kind 8 as the first record", "factors a", "refused 2 at 0"),
         named(
