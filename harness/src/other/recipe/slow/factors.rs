@@ -1,7 +1,6 @@
 //! 02's factors word by word: rows 19 and 20, the companion, and in which ways a kind 8 record goes wrong.
 
-use super::{Kind, Part, Reading, Spot};
-use super::{AFTER_13, BEFORE_13};
+use super::{Kind, Part, Reading, Spot, AFTER_13, BEFORE_13};
 use crate::bandrolt::FactorsAnswer;
 use crate::other::recipe::rules::Rules;
 use crate::other::{Refusal, ENTRY, FIELD};
