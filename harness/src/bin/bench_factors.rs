@@ -3,7 +3,7 @@
 
 use harness::bandrolt::{flatten, flatten_with_factors};
 use harness::other::{recipe, ENTRY, RECORD};
-use harness::recipes::sized::plant;
+use harness::recipes::sized::{four_levels, given_factors, plant, reactions_alone};
 use harness::recipes::text::parse;
 use harness::tables::MAX_RECORDS;
 use harness::timing::{print_head_with_flattening, print_row_with_flattening, Program};
@@ -19,17 +19,21 @@ fn main() {
     row("a plant without factors", 64, plant(64), (0, 65));
     for leaves in [15, 30, 60] {
         let entries = 17 * leaves as u64;
-        row("four levels, leaves", leaves, levels(leaves), (0, entries));
+        row(
+            "four levels, leaves",
+            leaves,
+            four_levels(leaves),
+            (0, entries),
+        );
     }
     for instances in [10, 28, 64] {
         let entries = 16 * instances as u64;
-        let recipe = without_factors(instances);
+        let recipe = reactions_alone(instances);
         row("no factors, instances", instances, recipe, (0, entries));
     }
-    // In a definition that main doesn't use, since a tree has 63 submodels at most.
     for count in [65, 131, 263] {
-        row("kind 8", count, in_one(count, "s", ""), (0, 0));
-        let common = in_one(count, "common_st", "");
+        row("kind 8", count, given_factors(count, "s", ""), (0, 0));
+        let common = given_factors(count, "common_st", "");
         row("kind 8, 9 in common", count, common, (0, 0));
     }
     for count in [65, 131, 262] {
@@ -37,10 +41,10 @@ fn main() {
         row(
             "the last repeats",
             count,
-            in_one(count, "s", &last),
+            given_factors(count, "s", &last),
             (19, 0),
         );
-        let last_but_one = in_one(count - 1, "s", "factors s000\nfactors s001\n");
+        let last_but_one = given_factors(count - 1, "s", "factors s000\nfactors s001\n");
         row("the last but one repeats", count, last_but_one, (19, 0));
     }
     for count in [110, 220, 440] {
@@ -70,41 +74,4 @@ fn print_row(what: &str, recipe: &str, expected: Expected) {
         Box::new(|recipe| flatten(recipe, &mut alone).number),
     ];
     print_row_with_flattening(what, &mut programs, recipe);
-}
-
-/// Factors on four levels, and so many leaves of 17 reactions on the last: 1,020 entries for 60 of them, and 4 parameters.
-fn levels(leaves: usize) -> String {
-    let mut recipe = String::new();
-    for level in 0..3 {
-        let next = level + 1;
-        recipe += &format!(
-            "model m{level}\nparameter f\nsubmodel a of m{next}\nfactors a time f extent f\n"
-        );
-    }
-    recipe += "model m3\nparameter f\n";
-    for i in 0..leaves {
-        recipe += &format!("submodel a{i} of leaf\nfactors a{i} time f extent f\n");
-    }
-    recipe + "model leaf\n" + &reactions(17)
-}
-
-/// So many instances with main of 16 reactions each.
-fn without_factors(instances: usize) -> String {
-    let submodels: String = (1..instances)
-        .map(|i| format!("submodel a{i} of leaf\n"))
-        .collect();
-    let reactions = reactions(16);
-    format!("model top\n{reactions}{submodels}model leaf\n{reactions}")
-}
-
-fn reactions(count: usize) -> String {
-    (0..count).map(|i| format!("reaction r{i}\n")).collect()
-}
-
-/// A definition with so many submodels, each given factors, and with some records more.
-fn in_one(count: usize, stem: &str, more: &str) -> String {
-    let given: String = (0..count)
-        .map(|i| format!("submodel {stem}{i:03} of top\nfactors {stem}{i:03}\n"))
-        .collect();
-    format!("model top\nmodel unused\n{given}{more}")
 }

@@ -3,9 +3,11 @@
 
 use super::aimed::chain;
 use super::damage::padded;
+use super::sized::{four_levels, given_factors, reactions_alone};
 use super::text::{parse, parse_example, Example};
 use crate::other::{MAX_RECIPE, RECORD};
 use crate::random::Random;
+use crate::tables::MAX_RECORDS;
 
 /// The output that 01's printing program lends.
 pub const ROOM: usize = 65_395;
@@ -310,7 +312,60 @@ pub fn factor_edges() -> Vec<Named> {
             "w time - - - - extent - - - -
              a__b__c__d__r time f - - - extent - - - a__b__c__g",
         ),
+        named(
+            "440 kind 8 records for one submodel",
+            &format!("model t\nsubmodel a of t\n{}", "factors a\n".repeat(440)),
+            "refused 19 at 75",
+        ),
+        named(
+            "263 submodels with factors, not used",
+            &given_factors(263, "s", ""),
+            "flat 0",
+        ),
+        most_factors(),
+        most_entries(),
     ]
+}
+
+/// Factors on four levels, and 1,020 reactions below them.
+fn most_factors() -> Named {
+    let prefixes = ["", "a__", "a__a__", "a__a__a__"];
+    let parameters = prefixes.map(|prefix| format!("{prefix}f"));
+    let ends = parameters.join(" ");
+    let mut prints = String::from("flat 1024");
+    for parameter in &parameters {
+        prints += &format!("\n3 {parameter} - -");
+    }
+    let mut companion = String::new();
+    for (leaf, reaction) in (0..60 * 17).map(|i| (i / 17, i % 17)) {
+        let name = format!("a__a__a__a{leaf}__r{reaction}");
+        prints += &format!("\n4 {name} - -");
+        companion += &format!("{name} time {ends} extent {ends}\n");
+    }
+    let most = named("factors on four levels", &four_levels(60), &prints);
+    with_all_room(most).with_companion(&companion)
+}
+
+/// 1,024 entries, which is all that a companion can have.
+fn most_entries() -> Named {
+    let mut prints = String::from("flat 1024");
+    let mut companion = String::new();
+    for (instance, reaction) in (0..64 * 16).map(|i| (i / 16, i % 16)) {
+        let prefix = match instance {
+            0 => String::new(),
+            _ => format!("a{instance}__"),
+        };
+        prints += &format!("\n4 {prefix}r{reaction} - -");
+        companion += &format!("{prefix}r{reaction} time - - - - extent - - - -\n");
+    }
+    let most = named("1,024 entries", &reactions_alone(64), &prints);
+    with_all_room(most).with_companion(&companion)
+}
+
+/// With an output that suffices for every recipe.
+fn with_all_room(named: Named) -> Named {
+    let room = MAX_RECORDS * RECORD;
+    Named { room, ..named }
 }
 
 /// Where 01's sentences could be read in another way, and where a program might be led astray.

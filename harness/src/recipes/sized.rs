@@ -1,4 +1,4 @@
-//! Recipes as text that grow with a size, for the benchmarks.
+//! Recipes as text that grow with a size, for the benchmarks and for the greatest that is compared.
 
 /// A hall with reactors of 8 elements, each of them in the hall's volume and at its temperature.
 pub fn plant(instances: usize) -> String {
@@ -60,4 +60,42 @@ pub fn long_names(elements: usize) -> String {
         .map(|i| format!("parameter name{i:08}\n"))
         .collect();
     format!("{submodels}model m4\n{parameters}")
+}
+
+/// Factors on four levels, and on the last so many leaves of 17 reactions: 60 of them make 1,020 entries beside 4
+/// parameters.
+pub fn four_levels(leaves: usize) -> String {
+    let levels: String = (0..3)
+        .map(|i| {
+            let submodel = format!("submodel a of m{}\nfactors a time f extent f\n", i + 1);
+            format!("model m{i}\nparameter f\n{submodel}")
+        })
+        .collect();
+    let leaves: String = (0..leaves)
+        .map(|i| format!("submodel a{i} of leaf\nfactors a{i} time f extent f\n"))
+        .collect();
+    let reactions = reactions(17);
+    format!("{levels}model m3\nparameter f\n{leaves}model leaf\n{reactions}")
+}
+
+/// So many instances with main of 16 reactions each, without factors.
+pub fn reactions_alone(instances: usize) -> String {
+    let submodels: String = (1..instances)
+        .map(|i| format!("submodel a{i} of leaf\n"))
+        .collect();
+    let reactions = reactions(16);
+    format!("model top\n{reactions}{submodels}model leaf\n{reactions}")
+}
+
+fn reactions(count: usize) -> String {
+    (0..count).map(|i| format!("reaction r{i}\n")).collect()
+}
+
+/// A definition with so many submodels, each given factors, and with some records more. Main doesn't use it, since a tree
+/// has 63 submodels at most.
+pub fn given_factors(submodels: usize, stem: &str, more: &str) -> String {
+    let given: String = (0..submodels)
+        .map(|i| format!("submodel {stem}{i:03} of top\nfactors {stem}{i:03}\n"))
+        .collect();
+    format!("model top\nmodel unused\n{given}{more}")
 }
