@@ -24,6 +24,9 @@ pub(super) enum ReplacedBy {
     BothStay,
 }
 
+/// The names of a kind 8 record's factors.
+type Factors<'a> = [&'a [u8]; 2];
+
 /// The rules of a flattening program; the default ones are 01's and 02's.
 pub struct Rules {
     pub(super) longest_recipe: usize,
@@ -56,7 +59,7 @@ pub struct Rules {
     pub(super) given_factors: fn(Kind) -> bool,
     pub(super) submodel_at: fn(usize, usize) -> bool,
     /// Is a submodel given factors twice by two records with these?
-    pub(super) given_twice: fn([&[u8]; 2], [&[u8]; 2]) -> bool,
+    pub(super) given_twice: fn(Factors, Factors) -> bool,
     pub(super) earlier_factors: bool,
     pub(super) unused_for_19: bool,
     pub(super) unused_cycles: bool,
