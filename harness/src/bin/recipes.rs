@@ -13,7 +13,7 @@ use harness::random::Random;
 use harness::recipes::enumerate::each_recipe;
 use harness::recipes::generate::case;
 use harness::recipes::named::{edges, examples, factor_edges, to_try, Named};
-use harness::recipes::proved::{self, Sample, TableSample};
+use harness::recipes::proved::{self, CompanionSample, Sample, TableSample};
 use harness::recipes::{decode, printed, shown_entries, text, Record};
 use harness::report::{are_often, asked, save, Asked, Tally};
 use harness::tables::MAX_RECORDS;
@@ -114,11 +114,38 @@ fn check_proved(samples: &[Sample], tally: &mut Tally) {
         let agree = TABLE_CHECKS.iter().all(|check| check(table) == answer);
         tally.add("the programs answer as is proved of a table", agree);
     }
+    let companions = proved::companions();
+    println!("{} companions proved of them", companions.len());
+    for sample in &companions {
+        let agree = WITH_FACTORS
+            .iter()
+            .all(|(_, flatten)| writes_as_proved(sample, flatten));
+        tally.add("the programs answer as is proved of a companion", agree);
+    }
     let verdicts = samples.iter().map(|sample| sample.verdict);
     let verdicts = verdicts.chain(tables.iter().map(|sample| sample.verdict));
-    let numbers: BTreeSet<u64> = verdicts.map(|v| Answer::from(v).number).collect();
-    let is_whole = numbers.into_iter().eq(ALL_NUMBERS);
+    let numbers = verdicts.map(|v| Answer::from(v).number);
+    let of_companions = companions.iter().map(|sample| sample.answer.flat.number);
+    let numbers: BTreeSet<u64> = numbers.chain(of_companions).collect();
+    let is_whole = numbers
+        .into_iter()
+        .eq(ALL_NUMBERS.chain(NUMBERS_OF_FACTORS));
     tally.add("each number is proved of a recipe or table", is_whole);
+}
+
+/// The same for flattening with factors.
+fn writes_as_proved(
+    sample: &CompanionSample,
+    flatten: impl Fn(&[u8], &mut [u8], &mut [u8]) -> FactorsAnswer,
+) -> bool {
+    let mut proved = sample.rooms.map(pattern);
+    for (output, written) in proved.iter_mut().zip(&sample.written) {
+        output[..written.len()].copy_from_slice(written);
+    }
+    let found = flattened(sample.rooms, |table, companion| {
+        flatten(&sample.recipe, table, companion)
+    });
+    found == (sample.answer, proved)
 }
 
 /// The proved recipes tell the mutants: a definition with a mutant's error would not be proved of them.

@@ -1,7 +1,7 @@
-//! The recipes, tables and walks back that are proved of the definitions, read from the files that the prover reads.
+//! The recipes, tables, walks back and companions that are proved of the definitions, read from the files that the prover reads.
 //! Of antt this evaluates definitions by one equation, over numbers, names in quotes, and lists.
 
-use crate::bandrolt::Origin;
+use crate::bandrolt::{FactorsAnswer, Origin};
 use crate::other::{Refusal, Route, Verdict, FIELD, NAME};
 use std::collections::HashMap;
 use std::iter::Peekable;
@@ -11,10 +11,12 @@ use Value::*;
 const SAMPLES: &str = concat!(
     include_str!("../../../crates/samples/specs/Samples.antt"),
     include_str!("../../../crates/samples/specs/Walks.antt"),
+    include_str!("../../../crates/samples/specs/Companions.antt"),
 );
 const PROOFS: &str = concat!(
     include_str!("../../../crates/samples/proofs/Starred.antt"),
     include_str!("../../../crates/samples/proofs/Walks.antt"),
+    include_str!("../../../crates/samples/proofs/Companions.antt"),
 );
 
 /// A recipe, the length of the output, the verdict, and the flat table.
@@ -36,6 +38,14 @@ pub struct WalkSample {
     pub recipe: Vec<u8>,
     pub name: Vec<u8>,
     pub origin: Origin,
+}
+
+/// A recipe, the lengths of table and companion, and what flattening with factors answers and writes into them.
+pub struct CompanionSample {
+    pub recipe: Vec<u8>,
+    pub rooms: [usize; 2],
+    pub answer: FactorsAnswer,
+    pub written: [Vec<u8>; 2],
 }
 
 /// What is in the lists of which a proved statement says `every holdsOf`.
@@ -89,6 +99,27 @@ pub fn walks() -> Vec<WalkSample> {
             origin: Origin::from(Err(refusal(number, place))),
         },
         _ => panic!("{made} makes no walk's sample"),
+    })
+}
+
+/// What is in the lists of which a proved statement says `every companionHoldsOf`.
+pub fn companions() -> Vec<CompanionSample> {
+    stated("companionHoldsOf", |made, of| match (made, of) {
+        ("entered", [recipe, room, companion_room, count, table, entries, companion]) => {
+            CompanionSample {
+                recipe: recipe.bytes(),
+                rooms: [room, companion_room].map(Value::number),
+                answer: Ok((count.number(), entries.number())).into(),
+                written: [table, companion].map(Value::bytes),
+            }
+        }
+        ("unentered", [recipe, room, companion_room, number, place]) => CompanionSample {
+            recipe: recipe.bytes(),
+            rooms: [room, companion_room].map(Value::number),
+            answer: Err(refusal(number, place)).into(),
+            written: Default::default(),
+        },
+        _ => panic!("{made} makes no companion's sample"),
     })
 }
 
@@ -169,9 +200,11 @@ fn primitive(name: &str, of: &[Value]) -> Option<Value> {
             list.resize(list.len().max(*width), Number(0));
             List(list)
         }
-        ("refuses" | "gives" | "unclosed" | "closed" | "walked" | "unwalked", _) => {
-            Made(name.into(), of.to_vec())
-        }
+        (
+            "refuses" | "gives" | "unclosed" | "closed" | "walked" | "unwalked" | "entered"
+            | "unentered",
+            _,
+        ) => Made(name.into(), of.to_vec()),
         _ => return None,
     })
 }
