@@ -136,7 +136,7 @@ fn longest_run(s: &[u8], w: usize, t: &[u16], d: usize, m: usize, n: usize) -> u
     ensures { λ r. ⌜ r ≡ longest (name (recipeAt w (now (s .entry))) m) (declaredNames (recipeAt w (now (s .entry))) d) ⌝ }
 {
     let mut best = 0;
-    let mut p = d + recipe::record_length(1, w);
+    let mut p = d + recipe::length_by_kind(1, w);
     while p < s.len() {
         if cell(t, p, shadow::DEFINITION_OF) != d {
             return best;
@@ -145,9 +145,9 @@ fn longest_run(s: &[u8], w: usize, t: &[u16], d: usize, m: usize, n: usize) -> u
         if (k == 2) | (k == 4) {
             let u = run_behind(s, w, p, m, n);
             best = larger(best, u);
-            p += recipe::record_length(k, w);
+            p += recipe::length_by_kind(k, w);
         } else {
-            p += recipe::record_length(k, w);
+            p += recipe::length_by_kind(k, w);
         }
     }
     best

@@ -69,6 +69,24 @@ bytesOf w [] = 0
 bytesOf w (x ∷ []) = partBytes w x
 bytesOf w (x ∷ y ∷ xs) = partBytes w x + bytesOf w (y ∷ xs)
 
+-- how many of some parts are names,
+abbrev pub namesIn : List Part → ℕ
+namesIn [] = 0
+namesIn (aName ∷ xs) = suc (namesIn xs)
+namesIn (aSubmodelName ∷ xs) = suc (namesIn xs)
+namesIn (aNameOrBlank ∷ xs) = suc (namesIn xs)
+namesIn (aClass ∷ xs) = namesIn xs
+namesIn (aWay ∷ xs) = namesIn xs
+
+-- and how many single bytes
+abbrev pub singlesIn : List Part → ℕ
+singlesIn [] = 0
+singlesIn (aName ∷ xs) = singlesIn xs
+singlesIn (aSubmodelName ∷ xs) = singlesIn xs
+singlesIn (aNameOrBlank ∷ xs) = singlesIn xs
+singlesIn (aClass ∷ xs) = suc (singlesIn xs)
+singlesIn (aWay ∷ xs) = suc (singlesIn xs)
+
 -- where part number i of the body of kind k begins in it, counted from 0
 abbrev pub partOffset : ℕ → ℕ → ℕ → ℕ
 partOffset w k i = bytesOf w (take i (bodyOf k))

@@ -1,13 +1,13 @@
 // Recipes: their records, and the refusals 1 to 3.
 // For the floors above, which name the width w of names: length_fault, reading_stop and first_unformed (rows 1 to 3), is_readable and read_record;
-// what is asked of a kind byte k: record_length, is_port, is_deletion, is_replaced_by, is_owned, is_mark, is_pointer, submodel_offset; wide, of a number in a table.
+// what is asked of a kind byte k: record_length, length_by_kind, is_port, is_deletion, is_replaced_by, is_owned, is_mark, is_pointer, submodel_offset; wide, of a number in a table.
 ghost use mathlib.Core.Path.{_≡_};
 ghost use mathlib.Core.Bool.{true};
 ghost use Prim.Native.Nat.{ℕ, _+_, _*_, _<_, _≤_};
 ghost use lib.ListN.{length};
 ghost use Rattle.names.specs.Names.{fieldOf};
 ghost use Rattle.names.specs.Scans.{foundOf};
-ghost use Rattle.recipe.specs.Records.{recipeAt, isKnown, recordLength, portKind, deletionKind, replacedByKind, ownedKind, markKind, pointerKind, submodelPart, partOffset, isReadable, stop, field};
+ghost use Rattle.recipe.specs.Records.{recipeAt, bodyOf, namesIn, singlesIn, isKnown, recordLength, portKind, deletionKind, replacedByKind, ownedKind, markKind, pointerKind, submodelPart, partOffset, isReadable, stop, field};
 ghost use Rattle.recipe.specs.Reading.{fault₁, fault₃};
 ghost use Rattle.recipe.specs.Fields.{TargetAt, RecordAt, MarkAt, targetReading, markReading, readingOf};
 use names::Field;
@@ -104,8 +104,40 @@ pub fn length_fault(s: &[u8]) -> Found
     Found::Nothing
 }
 
-// The bytes of a record of kind k, with its kind byte.
+// How many name fields a record of kind k has.
+fn name_fields(k: u8) -> usize
+    ensures { λ r. ⌜ (r ≡ namesIn (bodyOf k)) × (r ≤ 3) ⌝ }
+{
+    match k {
+        1 => 1,
+        4 | 5 => 2,
+        2 | 3 | 6 | 7 | 8 => 3,
+        _ => 0,
+    }
+}
+
+// And how many single bytes behind its kind.
+fn single_bytes(k: u8) -> usize
+    ensures { λ r. ⌜ (r ≡ singlesIn (bodyOf k)) × (r ≤ 1) ⌝ }
+{
+    match k {
+        2 | 3 | 5 | 6 | 7 => 1,
+        _ => 0,
+    }
+}
+
+// The bytes of a record of kind k, with its kind byte. A pass that sees each record once takes this: numbers by kind are looked up, where lengths by kind would be jumps that nobody foresees.
 pub fn record_length(k: u8, w: usize) -> usize
+    requires { ⌜ w ≤ 65536 ⌝ }
+    ensures { λ r. ⌜ r ≡ recordLength w k ⌝ }
+{
+    let n = name_fields(k);
+    let b = single_bytes(k);
+    1 + n * w + b
+}
+
+// The same, for a loop that goes over the same records again and again: there the jumps are foreseen, and a look-up would wait for each kind byte.
+pub fn length_by_kind(k: u8, w: usize) -> usize
     requires { ⌜ w ≤ 65536 ⌝ }
     ensures { λ r. ⌜ r ≡ recordLength w k ⌝ }
 {

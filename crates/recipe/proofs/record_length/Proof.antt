@@ -1,35 +1,23 @@
--- `recipe::record_length` meets its contract: kind by kind.
+-- `recipe::record_length` meets its contract: by the parts of the body.
 -- Assumes nothing.
-use Rattle.recipe.proofs.RecordLengths.{length-model, length-submodel, length-deletion, length-factors, length-three, length-none, length-past}
 use native.Mathlib.Omega.{arith}
+use Rattle.recipe.proofs.RecordLengths.{length-parts, names-fit}
 use borrow.Author.Needs.{needs}
 use Rattle.recipe.proofs.record_length.Statement.{statement}
 use Rattle.recipe.proofs.record_length.Tie as tie
 
+mul-result : tie.Need-mul-result
+mul-result c = omega (arith, names-fit (c .before .name-fields .ensures .1) (c .before .before .pre))
+
+add-result : tie.Need-add-result
+add-result c = omega (arith, names-fit (c .before .name-fields .ensures .1) (c .before .before .pre))
+
+add-result-2 : tie.Need-add-result-2
+add-result-2 c = omega (arith, names-fit (c .before .name-fields .ensures .1) (c .before .before .pre), c .single-bytes .ensures .1)
+
 returns : tie.Need-returns
-returns c = length-model _ (c .match .keys1)
-
-returns-2 : tie.Need-returns-2
-returns-2 c = length-submodel _ (c .match .keys2)
-
-returns-3 : tie.Need-returns-3
-returns-3 c = length-deletion _ (c .match .keys3)
-
-returns-4 : tie.Need-returns-4
-returns-4 c = length-factors _ (c .match .keys4)
-
-returns-5 : tie.Need-returns-5
-returns-5 c =
-    let n = c .before .before .match .rest in
-    length-three _ _ (c .before .if1 .left) (c .if2 .taken) (n .0 .0 .0 .1) (n .0 .0 .1) (n .0 .1)
-
-returns-6 : tie.Need-returns-6
-returns-6 c = length-none _ _ (c .if1 .taken)
-
-returns-7 : tie.Need-returns-7
-returns-7 c = length-past _ _ (omega (arith, c .if2 .left, c .before .before .match .rest .1))
+returns c = length-parts _ _ (c .before .name-fields .ensures .0) (c .single-bytes .ensures .0)
 
 pub record-length-spec : {M : Type 1} → statement M
-record-length-spec = tie.close (tie.spec (λ c. search needs) (λ c. search needs) (λ c. search needs) (λ c. search needs)
-    (λ c. search needs) (λ c. search needs) (λ c. search needs) (λ c. search needs) (λ c. search needs) returns
-    returns-2 returns-3 returns-4 returns-5 returns-6 returns-7)
+record-length-spec = tie.close (tie.spec (λ c κs. search needs) (λ c κs. search needs) mul-result add-result
+    add-result-2 returns)
