@@ -90,7 +90,7 @@ module _ {s : Recipe} {t el : List ℕ} (C : ChainsRequires s t el) {f q z : ℕ
   }
 
 -- ---- a row that is being filled: those before it are done, and its fields are F
-pub record Row (s : Recipe) (sites : List ℕ) (i : ℕ) (F : ℕ → Option Node) : Type 0 where
+pub record SiteRow (s : Recipe) (sites : List ℕ) (i : ℕ) (F : ℕ → Option Node) : Type 0 where
   pub low : i < length (instances s)
   pub room : 16 * length (instances s) ≤ length sites
   pub are : (k j : ℕ) → k < i → j < 8 → SiteIs s (factorField s (getD (instances s) k []) j) (getD sites (16 * k + 2 * j) 0) (getD sites (16 * k + 2 * j + 1) 0)
@@ -108,7 +108,7 @@ sites-start {s} sites h z = record {
 module _ {s : Recipe} {sites : List ℕ} {i : ℕ} where
   -- a copy of an earlier row
   pub row-copied : SitesTo s sites i → {u : ℕ} → u < i → i < length (instances s) → {sites′ : List ℕ} → sites′ ≡ sets sites (16 * i) (take 16 (drop (16 * u) sites))
-      → Row s sites′ i (factorField s (getD (instances s) u []))
+      → SiteRow s sites′ i (factorField s (getD (instances s) u []))
   row-copied g {u} under low {sites′} e =
       let part = take 16 (drop (16 * u) sites) in
       let room = g .room in
@@ -127,8 +127,8 @@ module _ {s : Recipe} {sites : List ℕ} {i : ℕ} where
       }
 
   -- one field is put in
-  pub row-put : {F : ℕ → Option Node} → Row s sites i F → (c : ℕ) → c < 8 → {o : Option Node} {a b : ℕ} → SiteIs s o a b
-      → {sites′ : List ℕ} → sites′ ≡ sets sites (16 * i + 2 * c) (a ∷ b ∷ []) → Row s sites′ i (λ j. cond (eqb j c) o (F j))
+  pub row-put : {F : ℕ → Option Node} → SiteRow s sites i F → (c : ℕ) → c < 8 → {o : Option Node} {a b : ℕ} → SiteIs s o a b
+      → {sites′ : List ℕ} → sites′ ≡ sets sites (16 * i + 2 * c) (a ∷ b ∷ []) → SiteRow s sites′ i (λ j. cond (eqb j c) o (F j))
   row-put {F} g c h {o} {a} {b} S {sites′} e =
       let low = g .low in
       let room = g .room in
@@ -154,7 +154,7 @@ module _ {s : Recipe} {sites : List ℕ} {i : ℕ} where
       }
 
   -- it is done
-  pub row-done : {F : ℕ → Option Node} → Row s sites i F → ((j : ℕ) → j < 8 → F j ≡ factorField s (getD (instances s) i []) j) → SitesTo s sites (i + 1)
+  pub row-done : {F : ℕ → Option Node} → SiteRow s sites i F → ((j : ℕ) → j < 8 → F j ≡ factorField s (getD (instances s) i []) j) → SitesTo s sites (i + 1)
   row-done {F} g h = record {
     room = g .room;
     are = λ k j l m.
@@ -215,7 +215,7 @@ module _ {s : Recipe} {t inst el : List ℕ} (R : SitesRequires s t inst el) {i 
       cell-is = let h = in-submodels s (definitionAt s around) m submodel in k-is ∙ R .planted .measured .paired .factors m (h .placed) (h .passes)
 
       -- there is none: the row stays
-      pub row-none : k ≡ 0 → {sites : List ℕ} → Row s sites i (factorField s (getD (instances s) u [])) → SitesTo s sites (i + 1)
+      pub row-none : k ≡ 0 → {sites : List ℕ} → SiteRow s sites i (factorField s (getD (instances s) u [])) → SitesTo s sites (i + 1)
       unfolding around factorFor
       row-none z g =
           let none-is = factors-none s m around around-in submodel cell-is z in
@@ -274,7 +274,7 @@ module _ {s : Recipe} {t inst el : List ℕ} (R : SitesRequires s t inst el) {i 
             extent-site e S = rw (factor-is extentField) at (S around (elementIn s k (extentField s k)) (extent-factor e))
 
           -- both are put in
-          pub row-both : {d : ℕ} → d ≡ getD inst (6 * u + 1) 0 → {sites sites₁ sites₂ : List ℕ} {q q′ a b a′ b′ : ℕ} → Row s sites i (factorField s (getD (instances s) u []))
+          pub row-both : {d : ℕ} → d ≡ getD inst (6 * u + 1) 0 → {sites sites₁ sites₂ : List ℕ} {q q′ a b a′ b′ : ℕ} → SiteRow s sites i (factorField s (getD (instances s) u []))
               → q ≡ getD t (k + 3) 0 → FactorSite s f q a b → sites₁ ≡ sets sites (16 * i + 2 * d) (a ∷ b ∷ [])
               → q′ ≡ getD t (k + 5) 0 → FactorSite s f q′ a′ b′ → sites₂ ≡ sets sites₁ (16 * i + 2 * (4 + d)) (a′ ∷ b′ ∷ [])
               → SitesTo s sites₂ (i + 1)
