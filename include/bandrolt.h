@@ -117,7 +117,7 @@ typedef struct bandrolt_factors_answer {
    The call reads the recipe alone, writes within `table` and `companion` alone, ends on all input, keeps no state and
    allocates nothing. The three must not overlap; each may be null only with length 0. It needs less than
    BANDROLT_FLATTEN_WITH_FACTORS_STACK bytes of stack. */
-#define BANDROLT_FLATTEN_WITH_FACTORS_STACK 131072 /* TODO: to be measured */
+#define BANDROLT_FLATTEN_WITH_FACTORS_STACK 131072
 
 bandrolt_factors_answer bandrolt_flatten_with_factors(const uint8_t *recipe, size_t length, uint8_t *table, size_t room,
                                                       uint8_t *companion, size_t companion_room);
