@@ -116,7 +116,7 @@ pub fn next_submodel(s: &[u8], w: usize, t: &[u16], p: usize) -> usize
         if k == 4 {
             return q;
         }
-        q += recipe::length_by_kind(k, w);
+        q += recipe::record_length(k, w);
     }
     s.len()
 }

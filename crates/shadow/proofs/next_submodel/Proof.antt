@@ -60,8 +60,8 @@ returns-2 c =
     let if1-left = at-if1 .if1 .left in
     search-found (record { width = at-start .args .w; bytes = at-start .args .s .now }) R0 p g l cell2 if1-left (c .if2 .taken)
 
-length-by-kind-requires : tie.Need-length-by-kind-requires Inv-loop μ-loop
-length-by-kind-requires c κs = omega (arith, (c .before .before .before .before .before .before .before .before .before .before .before .pre .0) .shadowed .narrow)
+record-length-requires-2 : tie.Need-record-length-requires-2 Inv-loop μ-loop
+record-length-requires-2 c κs = omega (arith, (c .before .before .before .before .before .before .before .before .before .before .before .pre .0) .shadowed .narrow)
 
 add-q-2 : tie.Need-add-q-2 Inv-loop μ-loop
 add-q-2 c =
@@ -70,7 +70,7 @@ add-q-2 c =
     let p = at-start .args .p in
     let g = at-loop .loop .inv in
     let l = at-loop-test .loop-test .taken in
-    omega (arith, here-fits (record { width = at-start .args .w; bytes = at-start .args .s .now }) R0 p g l (c .length-by-kind .ensures), R0 .shadowed .short)
+    omega (arith, here-fits (record { width = at-start .args .w; bytes = at-start .args .s .now }) R0 p g l (c .record-length2 .ensures), R0 .shadowed .short)
 
 loop-less : tie.Need-loop-less Inv-loop μ-loop
 loop-less c =
@@ -79,7 +79,7 @@ loop-less c =
     let p = at-start .args .p in
     let g = at-loop .loop .inv in
     let l = at-loop-test .loop-test .taken in
-    omega (arith, here-fits (record { width = at-start .args .w; bytes = at-start .args .s .now }) R0 p g l (c .length-by-kind .ensures))
+    omega (arith, here-fits (record { width = at-start .args .w; bytes = at-start .args .s .now }) R0 p g l (c .record-length2 .ensures))
 
 loop-again : tie.Need-loop-again Inv-loop μ-loop
 loop-again c =
@@ -89,7 +89,7 @@ loop-again c =
     let g = at-loop .loop .inv in
     let l = at-loop-test .loop-test .taken in
     let if2-left = at-if2 .if2 .left in
-    search-more (record { width = at-start .args .w; bytes = at-start .args .s .now }) R0 p g l if2-left (c .length-by-kind .ensures)
+    search-more (record { width = at-start .args .w; bytes = at-start .args .s .now }) R0 p g l if2-left (c .record-length2 .ensures)
 
 returns-3 : tie.Need-returns-3 Inv-loop μ-loop
 returns-3 c =
@@ -98,5 +98,5 @@ returns-3 c =
 
 pub next-submodel-spec : {M : Type 1} → statement M
 next-submodel-spec = tie.close (tie.spec Inv-loop μ-loop cell-requires shared-slice-read-record-length
-    record-length-requires add-q loop-holds cell-requires-2 returns (λ c. search needs) returns-2 length-by-kind-requires
+    record-length-requires add-q loop-holds cell-requires-2 returns (λ c. search needs) returns-2 record-length-requires-2
     add-q-2 loop-less loop-again returns-3)
