@@ -1,4 +1,4 @@
--- 01's "Verdicts": the order of judging of the rows 1 to 12, which say nothing of an output.
+-- 01's "Verdicts", and 02's: the order of judging of the rows 1 to 12, 19 and 20, which say nothing of an output.
 -- Assumes nothing.
 use mathlib.Core.Option.{Option}
 use mathlib.Core.List.{List, _++_}

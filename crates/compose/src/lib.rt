@@ -1,4 +1,4 @@
-// Composing: rows 1 to 12 behind one call, and where none applies the rooms that a call's ending needs: the shadow, the instances, the elements of the tree.
+// Composing: rows 1 to 12, 19 and 20 behind one call, and where none applies the rooms that a call's ending needs: the shadow, the instances, the elements of the tree.
 // For the floors above: compose, and the sizes of its rooms. There is no public call.
 ghost use mathlib.Core.Path.{_≡_};
 ghost use mathlib.Core.List.{_++_};
@@ -53,7 +53,7 @@ fn judge_form(s: &[u8], w: usize) -> Refusal
     names::refuse(0, 0)
 }
 
-// Rows 4 to 6; where none applies, what the records name, and the heights of the definitions.
+// Rows 4, 5, 19 and 6; where none applies, what the records name, and the heights of the definitions.
 fn judge_names(s: &[u8], w: usize, t: &mut [u16]) -> Refusal
     requires { ⌜ NamesRequires (recipeAt w (now s)) (now t) ⌝ }
     ensures { λ r. ⌜ (r ≡ handed (judged (namingRows (recipeAt w (now (s .entry)))))) × (r .number ≡ 0 → Measured (recipeAt w (now (s .entry))) (now (t .exit))) ⌝ }
@@ -72,7 +72,7 @@ fn judge_names(s: &[u8], w: usize, t: &mut [u16]) -> Refusal
     names::refuse(0, 0)
 }
 
-// Rows 1 to 6.
+// Rows 1 to 6 and 19.
 fn read(s: &[u8], w: usize, t: &mut [u16]) -> Refusal
     requires { ⌜ Width w × (16384 ≤ length (now t)) ⌝ }
     ensures { λ r. ⌜ (r ≡ handed (judged (formRows (recipeAt w (now (s .entry))) ++ namingRows (recipeAt w (now (s .entry)))))) × (r .number ≡ 0 → Measured (recipeAt w (now (s .entry))) (now (t .exit))) ⌝ }
@@ -95,7 +95,7 @@ fn answer(a: Refusal, insts: usize, elems: usize) -> Composition
     }
 }
 
-// Rows 9 to 12 in order; where none applies, the elements of the tree as rows, all columns filled.
+// Rows 9 to 12 and 20 in order; where none applies, the elements of the tree as rows, all columns filled.
 fn judge_marks(
     s: &[u8],
     w: usize,
@@ -130,7 +130,7 @@ fn judge_marks(
     names::refuse(0, 0)
 }
 
-// Rows 7 to 12 of a recipe that rows 1 to 6 let pass.
+// Rows 7 to 12 and 20 of a recipe that the rows before let pass.
 fn judge_tree(s: &[u8], w: usize, t: &mut [u16], inst: &mut [u16], el: &mut [u16]) -> Composition
     requires { ⌜ Measured (recipeAt w (now s)) (now t) × ((0 < length (now s)) × Rooms (now t) (now inst) (now el)) ⌝ }
     ensures { λ r. ⌜ (refusalAt (r .number) (r .place) ≡ handed (judged (treeRows (recipeAt w (now (s .entry))) ++ (targetRows (recipeAt w (now (s .entry))) ++ (markRows (recipeAt w (now (s .entry))) ++ referenceRows (recipeAt w (now (s .entry)))))))) × (r .number ≡ 0 → Composed (recipeAt w (now (s .entry))) (now (t .exit)) (now (inst .exit)) (now (el .exit)) (r .insts) (r .elems)) ⌝ }
@@ -149,7 +149,7 @@ fn judge_tree(s: &[u8], w: usize, t: &mut [u16], inst: &mut [u16], el: &mut [u16
     answer(a, insts, elems)
 }
 
-// Rows 1 to 12 of a recipe of name width w; where none applies, the rooms.
+// All these rows, of a recipe of name width w; where none applies, the rooms.
 pub fn compose(s: &[u8], w: usize, t: &mut [u16], inst: &mut [u16], el: &mut [u16]) -> Composition
     requires { ⌜ Width w × Rooms (now t) (now inst) (now el) ⌝ }
     ensures { λ r. ⌜ (refusalAt (r .number) (r .place) ≡ handed (judged (refusalRows (recipeAt w (now (s .entry)))))) × (r .number ≡ 0 → Composed (recipeAt w (now (s .entry))) (now (t .exit)) (now (inst .exit)) (now (el .exit)) (r .insts) (r .elems)) ⌝ }

@@ -21,7 +21,7 @@ use Rattle.composer.specs.Verdicts.{nameWidth, recipeOf, accepted, verdi
 use Rattle.composer.proofs.Promises.{Promises, promises}
 use Rattle.composer.proofs.Verdicts.{accepts, enough-room, refusal-counts, unrefused, written-length, written-table}
 
--- accepted if and only if no row of 1 to 12 applies and there is room
+-- accepted if and only if no row before 13 applies and there is room
 pub exactly : (s : Recipe) (room : ℕ)
     → (verdict s room .number ≡ 0 → Unrefused s × (flatLength (s .width) * length (survivors s) ≤ room))
     × (Unrefused s × (flatLength (s .width) * length (survivors s) ≤ room) → verdict s room ≡ accepted (s .width) (length (survivors s)))

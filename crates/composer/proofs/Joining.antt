@@ -23,7 +23,7 @@ module _ (s : Recipe) where
   unfolding refused
   refusal-keeps n p out n₀ e = sym (written-not s out (λ z. n₀ (ap (λ (a : Answer). a .number) e ∙ z)))
 
-  -- ---- rows 1 to 12 refuse
+  -- ---- a row before 13 refuses
   module _ (n p : ℕ) (out : List ℕ) (e : refusalAt n p ≡ handed (judged (refusalRows s))) (n₀ : n ≡ 0 → ⊥) where
     pub compose-refuses : refused n p ≡ verdict s (length out)
     unfolding refusalOf

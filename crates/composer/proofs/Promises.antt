@@ -1,4 +1,4 @@
--- Demand 3: what holds of every recipe that rows 1 to 12 do not refuse, at every name width of two or more, and of its flat table.
+-- Demand 3: what holds of every recipe that no row before 13 refuses, at every name width of two or more, and of its flat table.
 -- Each part is a clause of the demand and cites a law that is proved elsewhere; `Demand.antt` says it of the call. Assumes nothing.
 use mathlib.Core.Path.{_≡_}
 use Prim.Native.Nat.{ℕ, _*_, _≤_}

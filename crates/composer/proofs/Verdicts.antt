@@ -24,7 +24,7 @@ use Rattle.composer.specs.Verdicts.{fault₁₃, accepted, refused, refu
 use Rattle.composer.proofs.Lengths.{flat-bytes}
 
 module _ (s : Recipe) where
-  -- a refusal by rows 1 to 12 is the answer, whatever the room
+  -- a refusal by a row before 13 is the answer, whatever the room
   pub refuses : (r : Refusal) (room : ℕ) → refusalOf s ≡ some r → refused (r .number) (r .place) ≡ verdict s room
   unfolding verdict refusedOr
   refuses r room e = rw e

@@ -1,4 +1,4 @@
--- The laws of recipes: reading the records, definitions, reaching, and what rows 1 to 6 say where they do not apply.
+-- The laws of recipes: reading the records, definitions, reaching, and what rows 1 to 6 and 19 say where they do not apply.
 pub mod Bodies
 pub mod Reading
 pub mod RecordLengths

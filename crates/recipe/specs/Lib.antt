@@ -1,4 +1,4 @@
--- 01's recipes: records, definitions, which definition reaches which, and rows 1 to 6 of "Verdicts".
+-- 01's recipes: records, definitions, which definition reaches which, and rows 1 to 6 and 19 of "Verdicts".
 pub mod Records
 pub mod Definitions
 pub mod Reaching

@@ -69,6 +69,10 @@ moreEntered =
     (row 3 "f" "" "" ++ row 6 "w" "" "f" ++ row 3 "a__f" "" "" ++ row 6 "a__w" "" "a__f") 2 (entry "w" "" "" "" "" ++ entry "a__w" "f" "" "f" "")
     -- both factors blank
     ∷ entered (model "t" ++ submodel "a" "m" ++ factors "a" "" "" ++ (model "m" ++ element "r" 4 "" "")) 205 613 1 (row 4 "a__r" "" "") 1 (entry "a__r" "" "" "" "")
+    -- kind 8 may stand before its submodel
+    ∷ entered (model "t" ++ factors "a" "" "" ++ submodel "a" "m" ++ (model "m" ++ element "r" 4 "" "")) 205 613 1 (row 4 "a__r" "" "") 1 (entry "a__r" "" "" "" "")
+    -- "every surviving": a reaction that is gone has no entry
+    ∷ entered (model "t" ++ submodel "a" "m" ++ deletion "a" 0 "r" ++ (model "m" ++ element "r" 4 "" "")) 0 0 0 [] 0 []
     -- 20 is "in the tree": not in a definition that main does not use
     ∷ entered (model "t" ++ (model "u" ++ submodel "a" "m" ++ factors "a" "x" "") ++ model "m") 0 0 0 [] 0 []
     -- no entries need no companion

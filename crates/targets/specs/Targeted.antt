@@ -14,7 +14,7 @@ use Rattle.tree.specs.Numbers.{reach}
 use Rattle.tree.specs.Tree.{Node, nodes, target}
 use Rattle.tree.specs.Planted.{Planted}
 
--- rows 1 to 6 and 8 do not apply: the place of each port's and mark's target
+-- rows 1 to 6, 19 and 8 do not apply: the place of each port's and mark's target
 pub record Aimed (s : Recipe) (t : List ℕ) : Type 0 where
   pub measured : Measured s t
   pub row₈ : fault₈ s ≡ none

@@ -57,7 +57,7 @@ pub record Threaded (s : Recipe) (t₀ inst₀ t inst : List ℕ) (n : ℕ) : Ty
       → getD inst (6 * i + 5) 0 ≡ instanceFrom s (definitionAt s (getD (instances s) i [])) (suc i) (drop (suc i) (instances s))
   pub firsts : Cell (definitions s) 8 (λ d. instanceFrom s d 0 (instances s)) t
 
--- rows 1 to 7 do not apply: the instances, the elements before each submodel's subtree, and each definition's first instance
+-- rows 1 to 7 and 19 do not apply: the instances, the elements before each submodel's subtree, and each definition's first instance
 pub record Planted (s : Recipe) (t inst : List ℕ) (n : ℕ) : Type 0 where
   pub measured : Measured s t
   pub row₇ : fault₇ s ≡ none

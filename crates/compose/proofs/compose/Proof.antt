@@ -1,4 +1,4 @@
--- `compose::compose` meets its contract: rows 1 to 6 refuse, or the tree is judged.
+-- `compose::compose` meets its contract: rows 1 to 6 or 19 refuse, or the tree is judged.
 -- Assumes nothing.
 use mathlib.Core.Path.{refl}
 use mathlib.Core.List.{_++_}

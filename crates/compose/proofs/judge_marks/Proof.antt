@@ -1,4 +1,4 @@
--- `compose::judge_marks` meets its contract: rows 9 to 12, row by row.
+-- `compose::judge_marks` meets its contract: rows 9 to 12 and 20, row by row.
 -- Assumes nothing.
 use Rattle.compose.proofs.Columns.{factors-ready}
 use mathlib.Core.Path.{_∙_, refl, sym}

@@ -1,4 +1,4 @@
--- `compose::read` meets its contract: rows 1 to 3 refuse, or rows 4 to 6 judge.
+-- `compose::read` meets its contract: rows 1 to 3 refuse, or rows 4, 5, 19 and 6 judge.
 -- Assumes nothing.
 use mathlib.Core.Path.{refl}
 use Rattle.names.specs.Judging.{areRefusals}

@@ -1,4 +1,4 @@
--- `composer::flatten` meets its contract: a refusal of rows 1 to 12 is handed on, else the room decides.
+-- `composer::flatten` meets its contract: a refusal of composing is handed on, else the room decides.
 -- Assumes nothing.
 use mathlib.Core.Path.{_∙_, refl}
 use Rattle.names.specs.Judging.{areRefusals}

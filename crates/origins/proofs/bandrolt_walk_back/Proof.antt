@@ -1,4 +1,4 @@
--- `origins::bandrolt_walk_back` meets its contract: a refusal of rows 1 to 12 is handed on, else the search decides.
+-- `origins::bandrolt_walk_back` meets its contract: a refusal of composing is handed on, else the search decides.
 -- Assumes nothing.
 use mathlib.Core.Path.{_∙_, refl, sym}
 use Rattle.names.specs.Judging.{areRefusals}
