@@ -53,7 +53,7 @@ set-cell-requires : tie.Need-set-cell-requires Inv-loop μ-loop
 unfolding isFactors kind
 set-cell-requires c κs =
     let at-if2 = c .before .before .before .before in let at-cell = at-if2 .before in let at-if1 = at-cell .before .before in let at-loop-test = at-if1 .before .before .before in let at-loop = at-loop-test .before in let at-start = at-loop .before .before .before in
-    let L = at-start .pre .0 in let sh = L .numbered .shadowed in let g = at-loop .loop .inv in let l = at-loop-test .loop-test .taken in let a = at-start .args in let R : Recipe = record { width = a .w; bytes = a .s .now } in let k = eq-eqb _ 8 (at-if1 .if1 .taken) in let m = pair-scaled L g l k (at-cell .cell .ensures .0) in let e = scaled-some R (at-loop .loop .p) m (at-if2 .if2 .left) in (omega (arith, pair-room L g l k e), omega (arith, walk-low sh (g .walking) l))
+    let L = at-start .pre .0 in let sh = L .numbered .shadowed in let g = at-loop .loop .inv in let l = at-loop-test .loop-test .taken in let a = at-start .args in let R : Recipe = record { width = a .w; bytes = a .s .now } in let k = eq-eqb _ 8 (at-if1 .if1 .taken) in let m = pair-scaled L g l k (at-cell .cell .ensures .0) in let e = scaled-some R (at-loop .loop .p) m (at-if2 .if2 .left) in (omega (arith, pair-room L g l k e, walk-room sh (g .walking) l), omega (arith, walk-low sh (g .walking) l))
 
 loop-less : tie.Need-loop-less Inv-loop μ-loop
 loop-less c =
