@@ -60,6 +60,7 @@ layout() {
 }
 
 step "layout" layout
+step "counts of underscores" tools/byte_counts.sh
 step "proofs and must-fail edits" rt ci
 make --no-print-directory ready
 beside "tables: the other program" compare

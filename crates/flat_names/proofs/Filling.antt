@@ -60,15 +60,15 @@ sets-long out l i vs e = ap length e ∙ length-sets l i vs
 module _ (s : Recipe) where
   pub row-parts : (m n u l : ℕ) (pre o₁ o₂ o₃ : List ℕ) (from to : ℕ) → n ≡ length (name s m) → u ≡ fewest (s .width) (namesAround s m) (name s m)
       → from + l ≤ length pre
-      → o₁ ≡ sets pre to (take l (drop from pre)) → o₂ ≡ sets o₁ (to + l) (take n (drop (m + 1) (s .bytes))) → o₃ ≡ sets o₂ (to + (l + n)) (replicate u 95)
+      → o₁ ≡ sets pre to (take l (drop from pre)) → o₂ ≡ sets o₁ (to + l) (take n (drop (m + 1) (s .bytes))) → o₃ ≡ sets o₂ (to + (l + n)) (replicate u underscore)
       → o₃ ≡ sets pre to (take l (drop from pre) ++ prefix s m)
-  unfolding prefix withUnderscores underscore
+  unfolding prefix withUnderscores
   row-parts m n u l pre o₁ o₂ o₃ from to e c h e₁ e₂ e₃ =
       let a = take l (drop from pre) in
-      let z : List ℕ = replicate u 95 in
+      let z : List ℕ = replicate u underscore in
       parts pre o₁ o₂ o₃ to a (name s m) z l n (part-length from l pre h) (sym e)
       e₁ (e₂ ∙ ap (sets o₁ (to + l)) (name-bytes s m n e)) e₃
-      ∙ ap (sets pre to) (append-assoc a (name s m) z ∙ ap (λ (k : ℕ). a ++ (name s m ++ replicate k 95)) c)
+      ∙ ap (sets pre to) (append-assoc a (name s m) z ∙ ap (λ (k : ℕ). a ++ (name s m ++ replicate k underscore)) c)
 
   pub row-length : (m n u : ℕ) → n ≡ length (name s m) → u ≡ fewest (s .width) (namesAround s m) (name s m) → n + u ≡ length (prefix s m)
   unfolding prefix withUnderscores

@@ -6,4 +6,5 @@ pub mod Lengths
 pub mod Puts
 pub mod Underscores
 pub mod Looking
+pub mod Counter
 pub mod Filling

@@ -1,34 +1,31 @@
--- One look at the names of a definition: a loop over its records that keeps the longest run behind a submodel's name.
+-- One look at the names of a definition: a loop over its records in which each name raises the count of underscores or leaves it.
 -- Assumes nothing.
 use mathlib.Core.Path.{_≡_, refl, sym, ap, _∙_}
-use mathlib.Core.Logic.{_⊎_, inl, inr, ⊎-elim}
+use mathlib.Core.Logic.{⊎-elim}
 use Prim.Native.Nat.{ℕ, _+_, _-_, _≤_, _<_, max}
 use native.Mathlib.Omega.{arith}
-use native.Mathlib.Decide.{decLe}
 use native.Mathlib.Nat.{add-sub-cancel-left}
-use mathlib.Core.Bool.{Bool, true, false, not, _&&_, _||_}
-use mathlib.Core.List.{List}
+use mathlib.Core.Bool.{Bool, true, false, _||_}
+use mathlib.Core.List.{List, [], _∷_, map}
 use lib.ListN.{length, getD, take, drop, length-drop}
 use lib.Seq.{take-take, drop-drop, take-add, drop-at, length-take-le}
 use lib.Dec.{eqb}
-use borrow.Author.Tests.{eqb-true, eq-eqb}
+use borrow.Author.Tests.{eqb-true}
 use Rattle.names.specs.Lists.{In, keep, same, every}
 use Rattle.names.specs.Names.{text, nonZero, fieldAt}
-use Rattle.names.proofs.Tests.{by-cases, not-both, or-cases, three, both}
-use Rattle.names.proofs.Lists.{in-keep, keep-in, in-map, map-in, take-while, same-true, eq-same}
+use Rattle.names.proofs.Tests.{not-both, or-cases}
+use Rattle.names.proofs.Lists.{take-while, same-true, eq-same}
 use Rattle.recipe.specs.Records.{Recipe, kind, places, stop, next, recordLength, isModel, isElement, isSubmodel, field, firstField, name}
 use Rattle.recipe.specs.Definitions.{definitions, holder, recordsOf, submodels, modelOf, isDeclared}
-use Rattle.recipe.proofs.Definitions.{in-records, in-submodels, name-short, holder-in, model-in}
+use Rattle.recipe.proofs.Definitions.{in-submodels, name-short, holder-in, model-in}
 use Rattle.recipe.proofs.Going.{class-low}
-use Rattle.recipe.proofs.Reading.{readable, readable-fits, next-more, place-low, before-this}
+use Rattle.recipe.proofs.Reading.{readable, readable-fits, next-more}
 use Rattle.recipe.proofs.RecordLengths.{length-submodel}
-use Rattle.recipe.proofs.Spans.{Rest, rest-start, met, met-fits, rest-more, rest-skip, holder-above, holder-below, holder-rise, definition-place, definition-fits}
+use Rattle.recipe.proofs.Spans.{Rest, rest-start, Met, met, met-fits, rest-end, rest-stop, rest-more, rest-skip, definition-place, definition-fits}
 use Rattle.shadow.specs.Columns.{Numbered, Linked}
-use Rattle.flat_names.specs.Prefixes.{declaredNames, namesAround, fewest}
-use Rattle.flat_names.specs.Underscores.{runFirst, runBehind, longest}
-use Rattle.flat_names.proofs.Prefixes.{Count}
-use Rattle.flat_names.proofs.OneName.{prefix-count}
-use Rattle.flat_names.proofs.Underscores.{text-nonzero, behind-field, behind-other, longest-is, longest-append, count-longest}
+use Rattle.flat_names.specs.Prefixes.{declaredNames}
+use Rattle.flat_names.specs.Underscores.{runFirst, runBehind, raised, raises, lastTry}
+use Rattle.flat_names.proofs.Underscores.{text-nonzero, behind-field, behind-other, raised-is, last-more, tried-more}
 
 -- a part of a part
 drop-take : (n k : ℕ) (l : List ℕ) → n ≤ length l → drop n (take (n + k) l) ≡ take k (drop n l)
@@ -96,12 +93,6 @@ module _ (s : Recipe) where
   unfolding isDeclared isElement isSubmodel kind
   declared-is p e = e
 
-  declared-kind : (p : ℕ) → isDeclared s p ≡ true → (kind s p ≡ 2) ⊎ (kind s p ≡ 4)
-  unfolding isDeclared isElement isSubmodel
-  declared-kind p e =
-      ⊎-elim (λ (h : eqb (kind s p) 2 ≡ true). inl (eqb-true (kind s p) 2 h)) (λ (h : eqb (kind s p) 4 ≡ true). inr (eqb-true (kind s p) 4 h))
-      (or-cases (eqb (kind s p) 2) (eqb (kind s p) 4) e)
-
   submodel-room : (m : ℕ) → In m (places s) → isSubmodel s m ≡ true → m + 1 + s .width ≤ length (s .bytes)
   unfolding isSubmodel next
   submodel-room m i e = omega (arith, readable-fits s m (readable s m i), length-submodel (s .width) (eqb-true (kind s m) 4 e))
@@ -112,26 +103,24 @@ module _ (s : Recipe) where
       ⊎-elim (λ (h : isElement s p ≡ true). omega (arith, class-low s p i h)) (λ (h : isSubmodel s p ≡ true). submodel-room p i h)
       (or-cases (isElement s p) (isSubmodel s p) e)
 
-  not-model : (p : ℕ) → isDeclared s p ≡ true → not (isModel s p) ≡ true
-  unfolding isModel
-  not-model p e = ⊎-elim (λ (k : kind s p ≡ 2). rw k) (λ (k : kind s p ≡ 4). rw k) (declared-kind p e)
-
--- ---- what a look has found before p: no run is longer than b, and one is as long
-pub record Look (s : Recipe) (d m p b : ℕ) : Type 0 where
-  pub rest : List ℕ
-  pub goes : Rest s d p rest
-  pub bound : (q : ℕ) → In q (recordsOf s d) → isDeclared s q ≡ true → q < p → runBehind (name s m) (name s q) ≤ b
-  pub found : (b ≡ 0) ⊎ ((q : ℕ) × (In q (recordsOf s d) × ((isDeclared s q ≡ true) × (runBehind (name s m) (name s q) ≡ b))))
+-- ---- what a look at the names of d has at p: the count u, where it began with u₀
+pub record RaiseLoop (s : Recipe) (d m u₀ p u : ℕ) : Type 0 where
+  pub left : List ℕ
+  pub goes : Rest s (isDeclared s) d p left
+  pub some : 1 ≤ u
+  -- the names that are left raise it to what all of them raise u₀ to
+  pub ends : lastTry (name s m) (map (name s) left) u ≡ lastTry (name s m) (declaredNames s d) u₀
+  -- and it is tried in this look, as is each count that they raise it to
+  pub tried : (k : ℕ) → In k (u ∷ raises (name s m) (map (name s) left) u) → In k (u₀ ∷ raises (name s m) (declaredNames s d) u₀)
 
 -- at a record of the definition
-pub record Own (s : Recipe) (d m p b : ℕ) : Type 0 where
+pub record Own (s : Recipe) (d m u₀ p u : ℕ) : Type 0 where
   pub whole : stop s ≡ length (s .bytes)
-  pub defined : In d (definitions s)
-  pub look : Look s d m p b
+  pub look : RaiseLoop s d m u₀ p u
   pub low : p < length (s .bytes)
   pub held : holder s p ≡ d
 
-module _ (s : Recipe) (whole : stop s ≡ length (s .bytes)) (d m : ℕ) (i : In d (definitions s)) where
+module _ (s : Recipe) (whole : stop s ≡ length (s .bytes)) (d m u₀ : ℕ) (i : In d (definitions s)) where
   model-kind : kind s d ≡ 1
   unfolding isModel
   model-kind = eqb-true (kind s d) 1 (definition-place s d i .1)
@@ -140,154 +129,88 @@ module _ (s : Recipe) (whole : stop s ≡ length (s .bytes)) (d m : ℕ) (i : In
   unfolding next
   start-next n l = ap (λ (k : ℕ). d + k) (l ∙ ap (recordLength (s .width)) (sym model-kind))
 
-  no-model : (q : ℕ) → kind s q ≡ 1 → isDeclared s q ≡ true → ⊥
-  no-model q k e = ⊎-elim (λ (h : kind s q ≡ 2). omega arith) (λ (h : kind s q ≡ 4). omega arith) (declared-kind s q e)
-
-  look-first : Look s d m (next s d) 0
-  look-first = record {
-    rest = submodels s d;
-    goes = rest-start s d whole i;
-    bound = λ q j t l.
-        let r = in-records s d q j in
-        let a : q ≤ d = before-this s d q (definition-place s d i .0) (r .0) l in
-        let e : q ≡ d = omega (arith, holder-below s q, r .1) in
-        absurd (no-model q (ap (kind s) e ∙ model-kind) t);
-    found = inl refl;
-  }
-
   pub start-room : (n : ℕ) → n ≡ recordLength (s .width) 1 → d + n ≤ length (s .bytes)
   start-room n l = rw (start-next n l) (definition-fits s d i)
 
-  pub look-start : (n : ℕ) → n ≡ recordLength (s .width) 1 → Look s d m (d + n) 0
-  look-start n l = rw (start-next n l) look-first
-
-  module _ {p b : ℕ} (g : Look s d m p b) where
-    -- before the end there is a record
-    look-place : p < length (s .bytes) → In p (places s)
-    look-place l = met s d whole (g .goes) l .place
-
-    look-all : ((q : ℕ) → In q (recordsOf s d) → q < p) → b ≡ longest (name s m) (declaredNames s d)
-    unfolding declaredNames
-    look-all h =
-        longest-is (name s m) (declaredNames s d) b
-        (λ x j.
-        let r = in-map (name s) (keep (isDeclared s) (recordsOf s d)) x j in
-        let k = in-keep (isDeclared s) (recordsOf s d) (r .0) (r .1) in
-        rw (r .2) (g .bound (r .0) (k .0) (k .1) (h (r .0) (k .0))))
-        (⊎-elim
-        (λ (z : b ≡ 0). inl z)
-        (λ (y : (q : ℕ) × (In q (recordsOf s d) × ((isDeclared s q ≡ true) × (runBehind (name s m) (name s q) ≡ b)))).
-        inr (
-          name s (y .0),
-          (map-in (name s) (keep (isDeclared s) (recordsOf s d)) (y .0) (keep-in (isDeclared s) (recordsOf s d) (y .0) (y .1 .0) (y .1 .1 .0)), y .1 .1 .1),
-        ))
-        (g .found))
-
-    -- the end of the recipe
-    look-end : length (s .bytes) ≤ p → b ≡ longest (name s m) (declaredNames s d)
-    look-end l = look-all (λ q j. omega (arith, place-low s q (in-records s d q j .0)))
-
-    -- a record of another definition: those behind it are of others, too
-    look-stop : p < length (s .bytes) → (holder s p ≡ d → ⊥) → b ≡ longest (name s m) (declaredNames s d)
-    look-stop l other =
-        look-all (λ q j.
-        elim (decLe p q) [
-          | yes h ↦
-              let a = g .goes .after in
-              let e = in-records s d q j .1 in
-              absurd (other (omega (arith, holder-rise s p q h, holder-above s d p i (let z : d ≤ p = omega arith in z))))
-          | no h ↦ omega arith
-        ])
-
-    module _ (l : p < length (s .bytes)) (held : holder s p ≡ d) (n : ℕ) (len : n ≡ recordLength (s .width) (getD (s .bytes) p 0)) where
-      on-next : p + n ≡ next s p
-      unfolding next kind
-      on-next = ap (λ (k : ℕ). p + k) len
-
-      on-room : p + n ≤ length (s .bytes)
-      on-room = rw on-next (met-fits s d whole (met s d whole (g .goes) l))
-
-      on-less : p < p + n
-      on-less = rw on-next (next-more s p)
-
-      on-rest : (r : List ℕ) × Rest s d (next s p) r
-      on-rest =
-          by-cases (isSubmodel s p)
-          (λ k. let r = rest-more s d whole (met s d whole (g .goes) l) held k in (r .0, r .1 .1))
-          (λ k. (g .rest, rest-skip s d whole (met s d whole (g .goes) l) held k))
-
-      before-on : (q : ℕ) → In q (recordsOf s d) → q < next s p → q ≤ p
-      before-on q j h = before-this s p q (look-place l) (in-records s d q j .0) h
-
-      look-skipped : isDeclared s p ≡ false → Look s d m (next s p) b
-      look-skipped k = record {
-        rest = on-rest .0;
-        goes = on-rest .1;
-        bound = λ q j t h. three q p
-            (λ u. g .bound q j t u)
-            (λ u. not-both t (ap (isDeclared s) u ∙ k))
-            (λ u. absurd (omega (arith, before-on q j h)));
-        found = g .found;
+  pub look-start : 1 ≤ u₀ → (n : ℕ) → n ≡ recordLength (s .width) 1 → RaiseLoop s d m u₀ (d + n) u₀
+  unfolding declaredNames
+  look-start some n l =
+      record {
+        left = keep (isDeclared s) (recordsOf s d);
+        goes = rw (start-next n l) (rest-start s (isDeclared s) d whole i);
+        some = some;
+        ends = refl;
+        tried = λ k j. j;
       }
-
-      -- no element nor submodel
-      look-skip : isDeclared s p ≡ false → Look s d m (p + n) b
-      look-skip k = rw on-next (look-skipped k)
-
-      own : isDeclared s p ≡ true → In p (recordsOf s d)
-      unfolding recordsOf
-      own k = keep-in (λ q. not (isModel s q) && eqb (holder s q) d) (places s) p (look-place l) (both (not-model s p k) (eq-eqb (holder s p) d held))
-
-      look-added : isDeclared s p ≡ true → (u c : ℕ) → u ≡ runBehind (name s m) (name s p) → c ≡ max b u → Look s d m (next s p) c
-      look-added k u c e f = record {
-        rest = on-rest .0;
-        goes = on-rest .1;
-        bound = λ q j t h. three q p
-            (λ v. omega (arith, g .bound q j t v))
-            (λ v. omega (arith, ap (λ (z : ℕ). runBehind (name s m) (name s z)) v))
-            (λ v. absurd (omega (arith, before-on q j h)));
-        found = elim (decLe u b) [
-          | yes q ↦ (let z : c ≡ b = omega arith in rw z (g .found))
-          | no q ↦ inr (p, (own k, (k, (let z : runBehind (name s m) (name s p) ≡ c = omega arith in z))))
-        ];
-      }
-
-      -- an element or submodel
-      look-more : isDeclared s p ≡ true → (u c : ℕ) → u ≡ runBehind (name s m) (name s p) → c ≡ max b u → Look s d m (p + n) c
-      look-more k u c e f = rw on-next (look-added k u c e f)
 
 -- ---- as the loop asks it, with the shadow
-module _ {s : Recipe} {t : List ℕ} {d m p b : ℕ} (x : Numbered s t) (i : In d (definitions s)) (g : Look s d m p b) where
-  pub at-end : length (s .bytes) ≤ p → b ≡ longest (name s m) (declaredNames s d)
-  at-end l = look-end s (x .shadowed .whole) d m i g l
+module _ {s : Recipe} {t : List ℕ} {d m u₀ p u : ℕ} (x : Numbered s t) (i : In d (definitions s)) (g : RaiseLoop s d m u₀ p u) where
+  none-left : g .left ≡ [] → u ≡ lastTry (name s m) (declaredNames s d) u₀
+  unfolding raises
+  none-left e = rw e at (g .ends)
+
+  pub at-end : length (s .bytes) ≤ p → u ≡ lastTry (name s m) (declaredNames s d) u₀
+  at-end l = none-left (rest-end s (isDeclared s) d (x .shadowed .whole) (g .goes) l)
 
   module _ (l : p < length (s .bytes)) {h : ℕ} (e : h ≡ getD t (p + 0) 0) where
+    here : Met s (isDeclared s) d (x .shadowed .whole) p (g .left)
+    here = met s (isDeclared s) d (x .shadowed .whole) (g .goes) l
+
     held-by : h ≡ holder s p
-    held-by = e ∙ x .held p (look-place s (x .shadowed .whole) d m i g l)
+    held-by = e ∙ x .held p (here .place)
 
-    pub at-other : (h ≡ d → ⊥) → b ≡ longest (name s m) (declaredNames s d)
-    at-other other = look-stop s (x .shadowed .whole) d m i g l (λ q. other (held-by ∙ q))
+    pub at-other : (h ≡ d → ⊥) → u ≡ lastTry (name s m) (declaredNames s d) u₀
+    at-other other = none-left (rest-stop s (isDeclared s) d (x .shadowed .whole) i here (λ q. other (held-by ∙ q)))
 
-    pub at-own : h ≡ d → Own s d m p b
-    at-own q = record { whole = x .shadowed .whole; defined = i; look = g; low = l; held = sym held-by ∙ q }
+    pub at-own : h ≡ d → Own s d m u₀ p u
+    at-own q = record { whole = x .shadowed .whole; look = g; low = l; held = sym held-by ∙ q }
 
-module _ {s : Recipe} {d m p b : ℕ} (o : Own s d m p b) where
+module _ {s : Recipe} {d m u₀ p u : ℕ} (o : Own s d m u₀ p u) where
+  own-met : Met s (isDeclared s) d (o .whole) p (o .look .left)
+  own-met = met s (isDeclared s) d (o .whole) (o .look .goes) (o .low)
+
   pub own-declared : eqb (getD (s .bytes) p 0) 2 || eqb (getD (s .bytes) p 0) 4 ≡ true → p + 1 + s .width ≤ length (s .bytes)
-  own-declared k = declared-room s p (look-place s (o .whole) d m (o .defined) (o .look) (o .low)) (declared-is s p k)
+  own-declared k = declared-room s p (own-met .place) (declared-is s p k)
 
   module _ {n : ℕ} (len : n ≡ recordLength (s .width) (getD (s .bytes) p 0)) where
+    own-next : p + n ≡ next s p
+    unfolding next kind
+    own-next = ap (λ (k : ℕ). p + k) len
+
     pub own-fits : p + n ≤ length (s .bytes)
-    own-fits = on-room s (o .whole) d m (o .defined) (o .look) (o .low) (o .held) n len
+    own-fits = rw own-next (met-fits s (isDeclared s) d (o .whole) own-met)
 
     pub own-less : p < p + n
-    own-less = on-less s (o .whole) d m (o .defined) (o .look) (o .low) (o .held) n len
+    own-less = rw own-next (next-more s p)
 
-    pub own-skip : eqb (getD (s .bytes) p 0) 2 || eqb (getD (s .bytes) p 0) 4 ≡ false → Look s d m (p + n) b
-    own-skip k = look-skip s (o .whole) d m (o .defined) (o .look) (o .low) (o .held) n len (declared-is s p k)
+    -- no element nor submodel
+    pub own-skip : eqb (getD (s .bytes) p 0) 2 || eqb (getD (s .bytes) p 0) 4 ≡ false → RaiseLoop s d m u₀ (p + n) u
+    own-skip k =
+        let g = o .look in
+        record {
+          left = g .left;
+          goes = rw own-next (rest-skip s (isDeclared s) d (o .whole) own-met (o .held) (declared-is s p k));
+          some = g .some;
+          ends = g .ends;
+          tried = g .tried;
+        }
 
-    pub own-more : eqb (getD (s .bytes) p 0) 2 || eqb (getD (s .bytes) p 0) 4 ≡ true → {u c : ℕ} → u ≡ runBehind (name s m) (name s p) → c ≡ max b u
-        → Look s d m (p + n) c
-    own-more k {u} {c} e f = look-more s (o .whole) d m (o .defined) (o .look) (o .low) (o .held) n len (declared-is s p k) u c e f
+    -- an element or submodel, with its run
+    pub own-more : eqb (getD (s .bytes) p 0) 2 || eqb (getD (s .bytes) p 0) 4 ≡ true → {r c : ℕ} → r ≡ runBehind (name s m) (name s p) → c ≡ max u (r + 1)
+        → RaiseLoop s d m u₀ (p + n) c
+    own-more k {r} {c} e f =
+        let g = o .look in
+        let more = rest-more s (isDeclared s) d (o .whole) own-met (o .held) (declared-is s p k) in
+        let some = g .some in
+        let is : c ≡ raised (name s m) (name s p) u = omega (arith, raised-is (name s m) u (name s p) some) in
+        let names = map (name s) (more .0) in
+        record {
+          left = more .0;
+          goes = rw own-next (more .1 .1);
+          some = omega arith;
+          ends = rw is (last-more (name s m) u (name s p) names ∙ rw (more .1 .0) at (g .ends));
+          tried = λ j q. g .tried j (rw (more .1 .0) (tried-more (name s m) u (name s p) names j (rw is at q)));
+        }
 
 -- ---- both definitions: the one that holds m, and its model
 pub record Both (s : Recipe) (m d e : ℕ) : Type 0 where
@@ -309,20 +232,3 @@ module _ {s : Recipe} {t : List ℕ} (x : Linked s t) (m : ℕ) (i : In m (submo
       let outer : d ≡ holder s m = f ∙ x .numbered .held m placed in
       let inner : e ≡ modelOf s m = g ∙ x .models m placed (in-submodels s (holder s m) m i .passes) in
       record { outer = outer; inner = inner; outer-in = rw outer (holder-in s m placed); inner-in = rw inner (model-in s (holder s m) m i) }
-
-  the-count : Count (s .width) (namesAround s m) (name s m) (fewest (s .width) (namesAround s m) (name s m))
-  the-count = let w = x .numbered .shadowed .wide in prefix-count s (let t : 2 ≤ s .width = omega arith in t) (x .row₃) (holder s m) m i
-
-  module _ {a b d e : ℕ} (h : Both s m d e) (f : a ≡ longest (name s m) (declaredNames s d)) (g : b ≡ longest (name s m) (declaredNames s e)) where
-    around : fewest (s .width) (namesAround s m) (name s m) ≡ max 2 (max a b + 1)
-    unfolding namesAround
-    around =
-        count-longest the-count
-        ∙ ap (λ (k : ℕ). max 2 (k + 1))
-        (longest-append (name s m) (declaredNames s (holder s m)) (declaredNames s (modelOf s m)) ∙ rw (f, g, h .outer, h .inner))
-
-    pub fewest-is : {c r : ℕ} → c ≡ max a b → r ≡ max 2 (c + 1) → r ≡ fewest (s .width) (namesAround s m) (name s m)
-    fewest-is {c} {r} j k = omega (arith, around)
-
-    pub fewest-low : max a b + 1 ≤ 64
-    fewest-low = let n = x .numbered .shadowed .narrow in omega (arith, around, the-count .most)

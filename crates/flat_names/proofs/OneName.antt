@@ -32,7 +32,7 @@ module _ (s : Recipe) where
       let r = in-map (name s) (keep (isDeclared s) (recordsOf s d)) n i in
       rw (r .2) (name-short s (r .0))
 
-  names-short : (m : ℕ) → Short (s .width) (namesAround s m)
+  pub names-short : (m : ℕ) → Short (s .width) (namesAround s m)
   unfolding namesAround
   names-short m =
       short (s .width) (declaredNames s (holder s m) ++ declaredNames s (modelOf s m))

@@ -1,24 +1,25 @@
--- The fewest underscores are one more than the longest run of them behind the name, and two at least: one look at the names around finds them.
+-- Runs of underscores behind a name, and the counts to which the names around raise the count: they rise, and the last is taken by none of them and each that is less by one.
 -- Assumes nothing.
 use mathlib.Core.Path.{_≡_, refl, sym, ap, _∙_}
-use mathlib.Core.Logic.{_⊎_, inl, inr, ⊎-elim}
-use Prim.Native.Nat.{ℕ, zero, suc, pred, _+_, _≤_, _<_, max}
+use mathlib.Core.Logic.{inr, ⊎-elim}
+use Prim.Native.Nat.{ℕ, zero, suc, _+_, _≤_, _<_, max, min}
 use native.Mathlib.Omega.{arith}
 use native.Mathlib.Decide.{decLe}
 use mathlib.Core.Bool.{Bool, true, false, false≢true}
 use mathlib.Core.List.{List, [], _∷_, _++_}
-use lib.ListN.{length, getD, take, drop, replicate, length-drop}
+use lib.ListN.{length, getD, take, drop, replicate, length-append, length-drop, length-replicate}
 use lib.Seq.{take-append-seam, drop-append-seam, take-take, length-take-le, getD-take, getD-drop}
 use lib.Dec.{eqb}
 use borrow.Author.Tests.{eqb-true, eq-eqb, ne-eqb}
-use Rattle.names.specs.Lists.{In, every, keepWhile, begins}
+use Rattle.names.specs.Lists.{In, any, every, keepWhile, begins}
 use Rattle.names.specs.Names.{underscore, nonZero, text}
-use Rattle.names.proofs.Tests.{by-cases, not-both, and-left, and-right}
-use Rattle.names.proofs.Lists.{any-in, any-some, while-on, while-off, take-while, begins-append, begins-rest, begins-length}
+use Rattle.names.proofs.Tests.{by-cases, not-both, and-left, and-right, three}
+use Rattle.names.proofs.ListOrder.{Rising, last-from}
+use Rattle.names.proofs.Lists.{while-on, while-off, take-while, begins-append, begins-rest, begins-length}
 use Rattle.names.proofs.Runs.{run-length}
 use Rattle.flat_names.specs.Prefixes.{withUnderscores, isTaken}
-use Rattle.flat_names.specs.Underscores.{runFirst, runBehind, longest}
-use Rattle.flat_names.proofs.Prefixes.{Count}
+use Rattle.flat_names.specs.Underscores.{runFirst, runBehind, raised, raises, lastTry}
+use Rattle.flat_names.proofs.Prefixes.{Short, Count}
 
 -- ---- underscores at the beginning of a list
 first-most : (k : ℕ) (x : List ℕ) → begins (replicate k underscore) x ≡ true → k ≤ runFirst x
@@ -37,6 +38,16 @@ most-first (suc k) (y ∷ x) h =
     by-cases (eqb underscore y)
     (λ u. rw u (most-first k x (let g : suc k ≤ suc (length (keepWhile (eqb underscore) x)) = rw (while-on (eqb underscore) y x u) at h in omega arith)))
     (λ u. absurd (let g : suc k ≤ 0 = rw (while-off (eqb underscore) y x u) at h in omega arith))
+
+-- among the first w bytes of a list there are no more than w
+pub first-take : (w : ℕ) (x : List ℕ) → runFirst (take w x) ≡ min w (runFirst x)
+unfolding runFirst
+first-take zero x = omega arith
+first-take (suc w) [] = omega arith
+first-take (suc w) (y ∷ x) =
+    by-cases (eqb underscore y)
+    (λ u. rw (while-on (eqb underscore) y (take w x) u, while-on (eqb underscore) y x u) (omega (arith, first-take w x)))
+    (λ u. rw (while-off (eqb underscore) y (take w x) u, while-off (eqb underscore) y x u) (omega arith))
 
 -- ---- behind a name
 behind-on : (a : ℕ) (n : List ℕ) (b : ℕ) (x : List ℕ) → eqb a b ≡ true → runBehind (a ∷ n) (b ∷ x) ≡ runBehind n x
@@ -71,75 +82,140 @@ most-behind (a ∷ n) k (b ∷ x) l h =
     (λ u. rw u (most-behind n k x l (rw (behind-on a n b x u) at h)))
     (λ u. absurd (let g : k ≤ 0 = rw (behind-off a n b x u) at h in omega arith))
 
--- ---- the longest
-pub in-longest : (n : List ℕ) (names : List (List ℕ)) (x : List ℕ) → In x names → runBehind n x ≤ longest n names
-unfolding longest
-in-longest n [] x i = absurd i
-in-longest n (y ∷ names) x (inl e) = rw e (omega arith)
-in-longest n (y ∷ names) x (inr i) = omega (arith, in-longest n names x i)
+-- a run and the name before it are bytes of the name that has them
+pub behind-bytes : (n x : List ℕ) → 1 ≤ runBehind n x → length n + runBehind n x ≤ length x
+behind-bytes n x h =
+    omega (
+      arith,
+      begins-length (n ++ replicate (runBehind n x) underscore) x (most-behind n (runBehind n x) x h (omega arith)),
+      length-append n (replicate (runBehind n x) underscore),
+      length-replicate (runBehind n x) underscore,
+    )
 
-longest-some : (n : List ℕ) (names : List (List ℕ)) → (longest n names ≡ 0) ⊎ ((x : List ℕ) × (In x names × (longest n names ≡ runBehind n x)))
-unfolding longest
-longest-some n [] = inl refl
-longest-some n (y ∷ names) =
-    elim (decLe (longest n names) (runBehind n y)) [
-      | yes q ↦ inr (y, (inl refl, (let e : max (runBehind n y) (longest n names) ≡ runBehind n y = omega arith in e)))
-      | no q ↦ ⊎-elim
-          (λ (z : longest n names ≡ 0). absurd (omega arith))
-          (λ (r : (x : List ℕ) × (In x names × (longest n names ≡ runBehind n x))).
-          let g = r .1 .1 in
-          inr (r .0, (inr (r .1 .0), (let e : max (runBehind n y) (longest n names) ≡ runBehind n (r .0) = omega arith in e))))
-          (longest-some n names)
-    ]
+pub behind-short : (n x : List ℕ) → runBehind n x ≤ length x
+behind-short n x = elim (decLe 1 (runBehind n x)) [
+  | yes q ↦ omega (arith, behind-bytes n x q)
+  | no q ↦ omega arith
+]
 
-pub longest-append : (n : List ℕ) (xs ys : List (List ℕ)) → longest n (xs ++ ys) ≡ max (longest n xs) (longest n ys)
-unfolding longest
-longest-append n [] ys = omega arith
-longest-append n (x ∷ xs) ys = omega (arith, longest-append n xs ys)
+-- ---- one name: it takes the count just where its run is as long
+taken-on : (n : List ℕ) (u : ℕ) (x : List ℕ) → 1 ≤ u → u ≤ runBehind n x → begins (withUnderscores n u) x ≡ true
+unfolding withUnderscores
+taken-on n u x l h = most-behind n u x l h
 
-longest-most : (n : List ℕ) (names : List (List ℕ)) (r : ℕ) → ((x : List ℕ) → In x names → runBehind n x ≤ r) → longest n names ≤ r
-unfolding longest
-longest-most n [] r h = omega arith
-longest-most n (y ∷ names) r h = omega (arith, h y (inl refl), longest-most n names r (λ x i. h x (inr i)))
+taken-off : (n : List ℕ) (u : ℕ) (x : List ℕ) → runBehind n x < u → begins (withUnderscores n u) x ≡ false
+unfolding withUnderscores
+taken-off n u x h = by-cases (begins (n ++ replicate u underscore) x) (λ e. absurd (omega (arith, behind-most n u x e))) (λ e. e)
 
--- what no run is longer than, and one is as long as, is the longest
-pub longest-is : (n : List ℕ) (names : List (List ℕ)) (r : ℕ) → ((x : List ℕ) → In x names → runBehind n x ≤ r)
-    → (r ≡ 0) ⊎ ((x : List ℕ) × (In x names × (runBehind n x ≡ r))) → r ≡ longest n names
-longest-is n names r h (inl z) = omega (arith, longest-most n names r h)
-longest-is n names r h (inr y) = omega (arith, longest-most n names r h, in-longest n names (y .0) (y .1 .0), y .1 .1)
+pub raised-is : (n : List ℕ) (u : ℕ) (x : List ℕ) → 1 ≤ u → raised n x u ≡ max u (runBehind n x + 1)
+unfolding raised
+raised-is n u x l = elim (decLe u (runBehind n x)) [
+  | yes q ↦ rw (taken-on n u x l q) (omega arith)
+  | no q ↦ rw (taken-off n u x (omega arith)) (omega arith)
+]
 
--- ---- a count is taken just where it is no more than the longest
-taken-most : (names : List (List ℕ)) (n : List ℕ) (k : ℕ) → isTaken names n k ≡ true → k ≤ longest n names
-unfolding isTaken withUnderscores
-taken-most names n k e =
-    let r = any-some (begins (withUnderscores n k)) names e in
-    omega (arith, in-longest n names (r .0) (r .1), behind-most n k (r .0) (r .2))
+-- ---- names one after the other
+module _ (n : List ℕ) where
+  raises-on : (u : ℕ) (x : List ℕ) (names : List (List ℕ)) → begins (withUnderscores n u) x ≡ true → raises n (x ∷ names) u ≡ raised n x u ∷ raises n names (raised n x u)
+  unfolding raises
+  raises-on u x names e = rw e
 
-most-taken : (names : List (List ℕ)) (n : List ℕ) (k : ℕ) → 1 ≤ k → k ≤ longest n names → isTaken names n k ≡ true
-unfolding isTaken withUnderscores
-most-taken names n k l h =
-    ⊎-elim
-    (λ (z : longest n names ≡ 0). absurd (omega arith))
-    (λ (r : (x : List ℕ) × (In x names × (longest n names ≡ runBehind n x))).
-    let g = r .1 .1 in
-    any-in (begins (withUnderscores n k)) names (r .0) (r .1 .0) (most-behind n k (r .0) l (omega arith)))
-    (longest-some n names)
+  raises-off : (u : ℕ) (x : List ℕ) (names : List (List ℕ)) → begins (withUnderscores n u) x ≡ false
+      → (raises n (x ∷ names) u ≡ raises n names u) × (raised n x u ≡ u)
+  unfolding raises raised
+  raises-off u x names e = (rw e, rw e)
 
--- so the fewest that is free, two or more, is this
-pub count-longest : {w : ℕ} {names : List (List ℕ)} {n : List ℕ} {c : ℕ} → Count w names n c → c ≡ max 2 (longest n names + 1)
-count-longest {w} {names} {n} {c} r =
-    let two = r .two in
-    let low : longest n names < c =
-    elim (decLe c (longest n names)) [
-      | yes q ↦ not-both (most-taken names n c (omega arith) q) (r .free)
-      | no q ↦ omega arith
-    ] in
-    let high : c ≤ max 2 (longest n names + 1) =
-    elim (decLe c 2) [
-      | yes q ↦ omega arith
-      | no q ↦ omega (arith, taken-most names n (pred c) (r .fewest (pred c) (omega arith) (omega arith)))
-    ] in
-    omega arith
+  -- what the names behind x raise the count to is what all of them do
+  pub last-more : (u : ℕ) (x : List ℕ) (names : List (List ℕ)) → lastTry n names (raised n x u) ≡ lastTry n (x ∷ names) u
+  last-more u x names =
+      by-cases (begins (withUnderscores n u) x)
+      (λ e. rw (raises-on u x names e))
+      (λ e. let r = raises-off u x names e in rw (r .0, r .1))
+
+  pub tried-more : (u : ℕ) (x : List ℕ) (names : List (List ℕ)) (k : ℕ) → In k (raised n x u ∷ raises n names (raised n x u)) → In k (u ∷ raises n (x ∷ names) u)
+  tried-more u x names k i =
+      by-cases (begins (withUnderscores n u) x)
+      (λ e. rw (raises-on u x names e) (inr i))
+      (λ e. let r = raises-off u x names e in rw (r .0) (rw (r .1) at i))
+
+  -- names behind others raise the count that those leave
+  pub last-append : (xs ys : List (List ℕ)) (u : ℕ) → lastTry n (xs ++ ys) u ≡ lastTry n ys (lastTry n xs u)
+  unfolding raises
+  last-append [] ys u = refl
+  last-append (x ∷ xs) ys u = sym (last-more u x (xs ++ ys)) ∙ (last-append xs ys (raised n x u) ∙ ap (lastTry n ys) (last-more u x xs))
+
+  pub raises-append : (xs ys : List (List ℕ)) (u : ℕ) → raises n (xs ++ ys) u ≡ raises n xs u ++ raises n ys (lastTry n xs u)
+  unfolding raises
+  raises-append [] ys u = refl
+  raises-append (x ∷ xs) ys u =
+      by-cases (begins (withUnderscores n u) x)
+      (λ e. rw e (ap (λ (l : List ℕ). raised n x u ∷ l) (raises-append xs ys (raised n x u))))
+      (λ e. rw e (raises-append xs ys u))
+
+  -- they rise
+  pub raises-rise : (names : List (List ℕ)) (u : ℕ) → 1 ≤ u → Rising (suc u) (raises n names u)
+  unfolding raises
+  raises-rise [] u l = tt
+  raises-rise (x ∷ names) u l =
+      elim (decLe u (runBehind n x)) [
+        | yes q ↦ rw (taken-on n u x l q) (omega (arith, raised-is n u x l), raises-rise names (raised n x u) (omega (arith, raised-is n u x l)))
+        | no q ↦ rw (taken-off n u x (omega arith)) (raises-rise names u l)
+      ]
+
+  -- no further than the names are long
+  pub raises-short : (w : ℕ) (names : List (List ℕ)) (u : ℕ) → 1 ≤ u → 1 ≤ length n → Short w names → (k : ℕ) → In k (raises n names u) → k ≤ w
+  unfolding raises
+  raises-short w [] u l h short k i = absurd i
+  raises-short w (x ∷ names) u l h short k i =
+      elim (decLe u (runBehind n x)) [
+        | yes q ↦ ⊎-elim
+            (λ (e : k ≡ raised n x u). omega (arith, raised-is n u x l, behind-bytes n x (omega arith), short .0))
+            (λ (j : In k (raises n names (raised n x u))). raises-short w names (raised n x u) (omega (arith, raised-is n u x l)) h (short .1) k j)
+            (rw (taken-on n u x l q) at i)
+        | no q ↦ raises-short w names u l h (short .1) k (rw (taken-off n u x (omega arith)) at i)
+      ]
+
+  pub last-least : (names : List (List ℕ)) (u : ℕ) → 1 ≤ u → u ≤ lastTry n names u
+  last-least names u l = last-from u (raises n names u) (raises-rise names u l)
+
+  pub last-some : (names : List (List ℕ)) (u : ℕ) {k : ℕ} → k ≡ lastTry n names u → 1 ≤ u → 1 ≤ k
+  last-some names u {k} e l = omega (arith, last-least names u l)
+
+  free-more : (k : ℕ) (x : List ℕ) (names : List (List ℕ)) → runBehind n x < k → isTaken names n k ≡ false → isTaken (x ∷ names) n k ≡ false
+  unfolding isTaken
+  free-more k x names l h = rw (taken-off n k x l, any) h
+
+  -- the last is taken by none of the names
+  pub last-free : (names : List (List ℕ)) (u : ℕ) → 1 ≤ u → isTaken names n (lastTry n names u) ≡ false
+  unfolding isTaken
+  last-free [] u l = refl
+  last-free (x ∷ names) u l =
+      let is = raised-is n u x l in
+      let above = last-least names (raised n x u) (omega arith) in
+      ap (isTaken (x ∷ names) n) (sym (last-more u x names))
+      ∙ free-more (lastTry n names (raised n x u)) x names (omega arith) (last-free names (raised n x u) (omega arith))
+
+  -- and one of them takes each that is less
+  pub less-taken : (names : List (List ℕ)) (u k : ℕ) → 1 ≤ u → u ≤ k → k < lastTry n names u → isTaken names n k ≡ true
+  unfolding isTaken raises
+  less-taken [] u k l h g = absurd (omega arith)
+  less-taken (x ∷ names) u k l h g =
+      let is = raised-is n u x l in
+      elim (decLe k (runBehind n x)) [
+        | yes q ↦ rw (any, taken-on n k x (omega arith) q)
+        | no q ↦
+            rw (any, taken-off n k x (omega arith))
+            (less-taken names (raised n x u) k (omega arith) (omega arith) (rw (last-more u x names) g))
+      ]
+
+-- two counts that are free, and each less is taken, are one
+pub count-is : {w : ℕ} {names : List (List ℕ)} {n : List ℕ} {c : ℕ} (k : ℕ) → Count w names n c → 2 ≤ k → isTaken names n k ≡ false
+    → ((j : ℕ) → 2 ≤ j → j < k → isTaken names n j ≡ true) → k ≡ c
+count-is {w} {names} {n} {c} k r two free less =
+    three k c
+    (λ l. not-both (r .fewest k two l) free)
+    (λ e. e)
+    (λ l. not-both (less c (r .two) l) (r .free))
 
 -- ---- a run in a field, by the field's bytes
 while-every : (t : ℕ → Bool) (xs : List ℕ) → every t (keepWhile t xs) ≡ true

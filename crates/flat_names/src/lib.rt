@@ -1,12 +1,13 @@
 // Flat names: the prefix of each instance, and the flat name of an element, written into a table.
 // For the floors above: put_zeros, put_name, fill_prefixes, and the sizes of the table of prefixes; name_length, count_underscores, fewest_underscores, for who looks for a prefix and writes none.
-// They take the name width w, 12 to 64, the shadow, and the rows of the instances.
+// They take the name width w, 12 to 64, the shadow, and the rows of the instances. A count of underscores is a byte wherever it is kept or passed on.
 ghost use mathlib.Core.Path.{_≡_};
 ghost use Prim.Native.Nat.{_+_, _*_, _≤_, _<_, max};
 ghost use mathlib.Core.List.{[], _++_};
 ghost use lib.ListN.{length, getD, take, drop, replicate};
 ghost use lib.Seq.{sets};
 ghost use Rattle.names.specs.Lists.{In, padded};
+ghost use Rattle.names.specs.Names.{underscore};
 ghost use Rattle.flat_table.specs.Table.{flatWidth};
 ghost use Rattle.recipe.specs.Records.{recipeAt, name};
 ghost use Rattle.recipe.specs.Definitions.{definitions, holder, submodels};
@@ -14,7 +15,7 @@ ghost use Rattle.tree.specs.Tree.{instances, node, treeElements};
 ghost use Rattle.tree.specs.Planted.{Planted};
 ghost use Rattle.shadow.specs.Columns.{Numbered, Linked};
 ghost use Rattle.flat_names.specs.Prefixes.{declaredNames, namesAround, fewest, prefix, flatName};
-ghost use Rattle.flat_names.specs.Underscores.{runFirst, runBehind, longest};
+ghost use Rattle.flat_names.specs.Underscores.{runFirst, runBehind, lastTry};
 ghost use Rattle.flat_names.specs.Rows.{Naming, Prefixed, rowWidth};
 use shadow::cell;
 
@@ -46,10 +47,10 @@ fn put_same(out: &mut [u8], at: usize, n: usize, x: u8)
     requires { ⌜ at + n ≤ length (now out) ⌝ }
     ensures { λ _. ⌜ now (out .exit) ≡ sets (now (out .entry)) at (replicate n x) ⌝ }
 {
-    let mut k = 0;
-    while k < n {
-        out[at + k] = x;
-        k += 1;
+    let mut i = 0;
+    while i < n {
+        out[at + i] = x;
+        i += 1;
     }
 }
 
@@ -82,8 +83,8 @@ pub fn put_name(
     put_zeros(out, at + (l + w), row - l);
 }
 
-// The larger of two numbers.
-fn larger(a: usize, b: usize) -> usize
+// The larger of two counts.
+fn larger(a: u8, b: u8) -> u8
     ensures { λ r. ⌜ r ≡ max a b ⌝ }
 {
     if a < b {
@@ -103,23 +104,26 @@ pub fn name_length(s: &[u8], w: usize, p: usize) -> usize
 }
 
 // With how many underscores the n bytes from a on begin.
-pub fn count_underscores(s: &[u8], a: usize, n: usize) -> usize
-    requires { ⌜ a + n ≤ length (now s) ⌝ }
+pub fn count_underscores(s: &[u8], a: usize, n: usize) -> u8
+    requires { ⌜ (a + n ≤ length (now s)) × (n ≤ 64) ⌝ }
     ensures { λ r. ⌜ r ≡ runFirst (take n (drop a (now (s .entry)))) ⌝ }
 {
-    let mut k = 0;
-    while k < n {
-        if s[a + k] != UNDERSCORE {
+    let end = a + n;
+    let mut p = a;
+    let mut k: u8 = 0;
+    while p < end {
+        if s[p] != UNDERSCORE {
             return k;
         }
+        p += 1;
         k += 1;
     }
     k
 }
 
 // How many underscores follow the name of m, of n bytes, in the name of p, if that begins with it.
-fn run_behind(s: &[u8], w: usize, p: usize, m: usize, n: usize) -> usize
-    requires { ⌜ (p + 1 + w ≤ length (now s)) × ((m + 1 + w ≤ length (now s)) × (n ≡ length (name (recipeAt w (now s)) m))) ⌝ }
+fn run_behind(s: &[u8], w: usize, p: usize, m: usize, n: usize) -> u8
+    requires { ⌜ (w ≤ 64) × ((p + 1 + w ≤ length (now s)) × ((m + 1 + w ≤ length (now s)) × (n ≡ length (name (recipeAt w (now s)) m)))) ⌝ }
     ensures { λ r. ⌜ r ≡ runBehind (name (recipeAt w (now (s .entry))) m) (name (recipeAt w (now (s .entry))) p) ⌝ }
 {
     let a = p + 1;
@@ -130,40 +134,49 @@ fn run_behind(s: &[u8], w: usize, p: usize, m: usize, n: usize) -> usize
     count_underscores(s, a + n, w - n)
 }
 
-// The longest run of underscores behind the name of m, of n bytes, in the names of definition d.
-fn longest_run(s: &[u8], w: usize, t: &[u16], d: usize, m: usize, n: usize) -> usize
-    requires { ⌜ Numbered (recipeAt w (now s)) (now t) × (In d (definitions (recipeAt w (now s))) × ((m + 1 + w ≤ length (now s)) × (n ≡ length (name (recipeAt w (now s)) m)))) ⌝ }
-    ensures { λ r. ⌜ r ≡ longest (name (recipeAt w (now (s .entry))) m) (declaredNames (recipeAt w (now (s .entry))) d) ⌝ }
+// The count u after the names of definition d were looked at: each that has as many underscores behind the name of m, of n bytes, raises it.
+fn raise_count(s: &[u8], w: usize, t: &[u16], d: usize, m: usize, n: usize, u: u8) -> u8
+    requires { ⌜ Numbered (recipeAt w (now s)) (now t) × (In d (definitions (recipeAt w (now s))) × ((m + 1 + w ≤ length (now s)) × ((n ≡ length (name (recipeAt w (now s)) m)) × (1 ≤ u)))) ⌝ }
+    ensures { λ r. ⌜ r ≡ lastTry (name (recipeAt w (now (s .entry))) m) (declaredNames (recipeAt w (now (s .entry))) d) u ⌝ }
 {
-    let mut best = 0;
+    let mut count = u;
     let mut p = d + recipe::length_by_kind(1, w);
     while p < s.len() {
         if cell(t, p, shadow::DEFINITION_OF) != d {
-            return best;
+            return count;
         }
         let k = s[p];
         if (k == 2) | (k == 4) {
-            let u = run_behind(s, w, p, m, n);
-            best = larger(best, u);
+            let run = run_behind(s, w, p, m, n);
+            count = larger(count, run + 1);
             p += recipe::length_by_kind(k, w);
         } else {
             p += recipe::length_by_kind(k, w);
         }
     }
-    best
+    count
 }
 
-// The underscores of the prefix of the submodel m: in one look at the names of the definition that holds it, and of its model.
-pub fn fewest_underscores(s: &[u8], w: usize, t: &[u16], m: usize) -> usize
+// The underscores of the prefix of the submodel m: two, or what the names of the definition that holds it, and then those of its model, raise them to.
+pub fn fewest_underscores(s: &[u8], w: usize, t: &[u16], m: usize) -> u8
     requires { ⌜ Linked (recipeAt w (now s)) (now t) × In m (submodels (recipeAt w (now s)) (holder (recipeAt w (now s)) m)) ⌝ }
     ensures { λ r. ⌜ r ≡ fewest w (namesAround (recipeAt w (now (s .entry))) m) (name (recipeAt w (now (s .entry))) m) ⌝ }
 {
     let n = name_length(s, w, m);
     let outer = cell(t, m, shadow::DEFINITION_OF);
     let inner = cell(t, m, shadow::MODEL);
-    let a = longest_run(s, w, t, outer, m, n);
-    let b = longest_run(s, w, t, inner, m, n);
-    larger(2, larger(a, b) + 1)
+    let u = raise_count(s, w, t, outer, m, n, 2);
+    raise_count(s, w, t, inner, m, n, u)
+}
+
+// Writes u underscores from `at` on, and answers where they end: here alone the count is no byte.
+fn put_underscores(out: &mut [u8], at: usize, u: u8) -> usize
+    requires { ⌜ at + u ≤ length (now out) ⌝ }
+    ensures { λ r. ⌜ (r ≡ at + u) × (now (out .exit) ≡ sets (now (out .entry)) at (replicate u underscore)) ⌝ }
+{
+    let n = u as usize;
+    put_same(out, at, n, UNDERSCORE);
+    at + n
 }
 
 // Copies l bytes of the table, from `from` on, to `to`, which is behind them.
@@ -196,8 +209,8 @@ fn put_row(
     let u = fewest_underscores(s, w, t, m);
     copy_row(pre, from, l, to);
     names::put_bytes(s, m + 1, n, pre, to + l);
-    put_same(pre, to + (l + n), u, UNDERSCORE);
-    l + (n + u)
+    let end = put_underscores(pre, to + (l + n), u);
+    end - to
 }
 
 // The prefixes of each instance, and their lengths: those of the instance around it, and that of its submodel.

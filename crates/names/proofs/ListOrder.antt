@@ -135,6 +135,16 @@ keep-rising t p (q ∷ qs) r =
     (λ e. rw (e, keep) (r .0, keep-rising t (suc q) qs (r .1)))
     (λ e. rw (e, keep) (rising-from p (suc q) (keep t qs) (omega (arith, r .0)) (keep-rising t (suc q) qs (r .1))))
 
+-- the last of rising numbers is none of the lower
+pub last-from : (d : ℕ) (qs : List ℕ) → Rising (suc d) qs → d ≤ lastOr d qs
+last-from d [] r = omega arith
+last-from d (q ∷ qs) r = omega (arith, r .0, last-from q qs (r .1))
+
+pub last-above : (p d : ℕ) (qs : List ℕ) (a : ℕ) → Rising p qs → In a qs → a ≤ lastOr d qs
+last-above p d [] a r i = absurd i
+last-above p d (q ∷ qs) a r (inl e) = omega (arith, last-from q qs (r .1))
+last-above p d (q ∷ qs) a r (inr i) = last-above (suc q) q qs a (r .1) i
+
 -- the last of rising numbers is the greatest
 pub last-greatest : (p z : ℕ) (qs : List ℕ) (a : ℕ) → Rising p qs → In a qs → ((b : ℕ) → In b qs → b ≤ a) → lastOr z qs ≡ a
 last-greatest p z [] a r i h = absurd i

@@ -1,12 +1,12 @@
 -- Which instances' prefixes a name begins with: a submodel's prefix in the name, and the instances one after the other.
 -- Assumes nothing.
 use mathlib.Core.Path.{_≡_, refl, sym, ap, _∙_}
-use Prim.Native.Nat.{ℕ, _+_, _*_, _-_, _≤_, _<_}
+use Prim.Native.Nat.{ℕ, _+_, _*_, _-_, _≤_, _<_, min}
 use native.Mathlib.Omega.{arith}
 use mathlib.Core.Bool.{Bool, true, false}
 use mathlib.Core.List.{List, _++_}
 use lib.ListN.{length, getD, set, take, drop, replicate, length-append, length-drop, length-set}
-use lib.Seq.{drop-drop, getD-set-other, getD-set-same, take-all}
+use lib.Seq.{drop-drop, getD-set-other, getD-set-same}
 use Rattle.names.specs.Lists.{begins, same}
 use Rattle.names.specs.Names.{fieldAt, underscore}
 use Rattle.names.proofs.Lists.{begins-same, begins-split}
@@ -22,7 +22,7 @@ use Rattle.flat_names.specs.Underscores.{runBehind, runFirst}
 use Rattle.flat_names.proofs.Filling.{Behind, around-low, behind, main-prefixes, row-length, some-instance}
 use Rattle.flat_names.proofs.Looking.{name-bytes, own-room}
 use Rattle.flat_names.proofs.OneName.{prefix-count}
-use Rattle.flat_names.proofs.Underscores.{behind-most, most-behind}
+use Rattle.flat_names.proofs.Underscores.{behind-most, first-take, most-behind}
 use Rattle.origins.specs.Search.{FitRequires, FitsTo, PrefixFits, PrefixRequires, fitOf, prefixEnd}
 
 -- ---- the prefix of the submodel m in f, from l on
@@ -41,6 +41,9 @@ module _ {s : Recipe} {t : List ℕ} {m : ℕ} {f : List ℕ} {l : ℕ} (R : Pre
 
   count-two : 2 ≤ count
   count-two = prefix-count s two (R .linked .row₃) (holder s m) m (R .submodel) .two
+
+  count-most : count ≤ s .width
+  count-most = prefix-count s two (R .linked .row₃) (holder s m) m (R .submodel) .most
 
   pub two-at-least : {u : ℕ} → u ≡ count → 2 ≤ u
   two-at-least e = omega (arith, e, count-two)
@@ -63,6 +66,11 @@ module _ {s : Recipe} {t : List ℕ} {m : ℕ} {f : List ℕ} {l : ℕ} (R : Pre
     unfolding flatWidth
     in-field = omega (arith, name-room, R .long)
 
+    -- the field goes on for a name's width
+    pub run-room : l + n + s .width ≤ length f
+    unfolding flatWidth
+    run-room = omega (arith, name-room, R .long)
+
     -- its name stands there
     module _ {b : Bool} (b-is : b ≡ same (fieldAt n (s .bytes) (m + 1)) (fieldAt n f l)) where
       name-test : b ≡ begins (name s m) rest
@@ -76,22 +84,21 @@ module _ {s : Recipe} {t : List ℕ} {m : ℕ} {f : List ℕ} {l : ℕ} (R : Pre
       unfolding prefixEnd prefix withUnderscores
       no-name e = rw (begins-split (name s m) (replicate count underscore) rest, sym name-test ∙ e)
 
-      module _ (there : b ≡ true) {k u : ℕ} (k-is : k ≡ runFirst (take (length f - (l + n)) (drop (l + n) f))) (u-is : u ≡ count) where
-        run-is : runBehind (name s m) rest ≡ k
+      module _ (there : b ≡ true) {k u : ℕ} (k-is : k ≡ runFirst (take (s .width) (drop (l + n) f))) (u-is : u ≡ count) where
+        -- underscores behind a name's width do not matter: the count is no more
+        run-is : k ≡ min (s .width) (runBehind (name s m) rest)
         unfolding runBehind
         run-is =
-            rw (sym name-test ∙ there)
-            (ap runFirst
-            (drop-drop (length (name s m)) l f
-            ∙ ap (λ (j : ℕ). drop (l + j) f) (sym n-is)
-            ∙ sym (take-all (length f - (l + n)) (drop (l + n) f) (omega (arith, length-drop (l + n) f))))
-            ∙ sym k-is)
+            k-is
+            ∙ first-take (s .width) (drop (l + n) f)
+            ∙ rw (sym name-test ∙ there)
+            (ap (λ (j : ℕ). min (s .width) (runFirst (drop (l + j) f))) n-is ∙ ap (λ (x : List ℕ). min (s .width) (runFirst x)) (sym (drop-drop (length (name s m)) l f)))
 
         pub few-underscores : k < u → 0 ≡ prefixEnd s f m l
         unfolding prefixEnd prefix withUnderscores
         few-underscores h =
             by-cases (begins (name s m ++ replicate count underscore) rest)
-            (λ e. absurd (omega (arith, behind-most (name s m) count rest e, run-is, u-is)))
+            (λ e. absurd (omega (arith, behind-most (name s m) count rest e, run-is, u-is, count-most)))
             (λ e. rw e)
 
         begins-there : u ≤ k → begins (prefix s m) rest ≡ true

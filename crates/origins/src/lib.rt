@@ -46,12 +46,12 @@ fn prefix_end(s: &[u8], w: usize, t: &[u16], m: usize, name: &[u8], l: usize) ->
     if !names::is_same(field_at(s, m + 1, n), field_at(name, l, n)) {
         return 0;
     }
-    let k = flat_names::count_underscores(name, l + n, name.len() - (l + n));
+    let k = flat_names::count_underscores(name, l + n, w);
     let u = flat_names::fewest_underscores(s, w, t, m);
     if k < u {
         return 0;
     }
-    l + (n + u) + 1
+    l + (n + u as usize) + 1
 }
 
 // For each instance one more than how many bytes its prefixes have, if the name begins with them; else 0.

@@ -1,4 +1,4 @@
--- A definition's records are those after it up to the next definition: a loop over its submodels, by each record's holder.
+-- A definition's records are those after it up to the next definition: a loop over those of them that pass a test, by each record's holder.
 -- Assumes nothing.
 use Prim.Native.Nat.{_+_, _<_, _≤_, suc, zero, ℕ}
 use borrow.Author.Tests.{eq-eqb, eqb-true, le-leb, leb-true}
@@ -9,25 +9,15 @@ use mathlib.Core.List.{List, [], _∷_}
 use mathlib.Core.Logic.{inl, inr, ⊎-elim}
 use mathlib.Core.Path.{_∙_, _≡_, ap, refl, sym}
 use native.Mathlib.Omega.{arith}
-use Rattle.names.specs.Lists.{In, keep, lastOr}
+use Rattle.names.specs.Lists.{In, keep}
 use Rattle.names.proofs.Lists.{in-keep, keep-in, last-in}
 use Rattle.names.proofs.Tests.{by-cases}
-use Rattle.names.proofs.ListOrder.{Rising, keep-rising}
-use Rattle.recipe.specs.Definitions.{definitions, holder, main, recordsOf, submodels}
-use Rattle.recipe.specs.Records.{Recipe, isModel, isReadable, isSubmodel, next, places, placesFrom, stop, stopFrom}
+use Rattle.names.proofs.ListOrder.{keep-rising, last-above}
+use Rattle.recipe.specs.Definitions.{definitions, holder, main, recordsOf}
+use Rattle.recipe.specs.Records.{Recipe, isModel, isReadable, next, places, placesFrom, stop, stopFrom}
 use Rattle.recipe.proofs.Definitions.{definitions-rise}
 use Rattle.recipe.proofs.Going.{none-past}
 use Rattle.recipe.proofs.Reading.{readable, next-more, places-least, readable-fits, whole}
-
--- ---- the last of a rising list
-last-from : (d : ℕ) (xs : List ℕ) → Rising (suc d) xs → d ≤ lastOr d xs
-last-from d [] r = omega arith
-last-from d (y ∷ ys) r = omega (arith, r .0, last-from y ys (r .1))
-
-last-above : (p d : ℕ) (xs : List ℕ) (x : ℕ) → Rising p xs → In x xs → x ≤ lastOr d xs
-last-above p d [] x r i = absurd i
-last-above p d (y ∷ ys) x r (inl e) = omega (arith, last-from y ys (r .1))
-last-above p d (y ∷ ys) x r (inr i) = last-above (suc y) y ys x (r .1) i
 
 module _ (s : Recipe) where
   -- a definition at or before a record is at or before its holder
@@ -67,30 +57,30 @@ module _ (s : Recipe) where
   pub definition-fits : (d : ℕ) → In d (definitions s) → next s d ≤ length (s .bytes)
   definition-fits d i = readable-fits s d (readable s d (definition-place d i .0))
 
--- ---- what is left of a definition's submodels
+-- ---- what is left of a definition's records that pass a test
 abbrev pub isOf : Recipe → ℕ → ℕ → Bool
 isOf s d q = not (isModel s q) && eqb (holder s q) d
 
--- the submodels of d among the places
-abbrev pub subsAmong : Recipe → ℕ → List ℕ → List ℕ
-subsAmong s d ps = keep (isSubmodel s) (keep (isOf s d) ps)
+-- the records of d among the places that pass the test
+abbrev pub amongst : Recipe → (ℕ → Bool) → ℕ → List ℕ → List ℕ
+amongst s t d ps = keep t (keep (isOf s d) ps)
 
-pub record Rest (s : Recipe) (d p : ℕ) (ms : List ℕ) : Type 0 where
+pub record Rest (s : Recipe) (t : ℕ → Bool) (d p : ℕ) (rs : List ℕ) : Type 0 where
   pub tries : ℕ
   pub enough : length (s .bytes) ≤ p + tries
   pub stops : stop s ≡ stopFrom tries s p
   pub inside : (x : ℕ) → In x (placesFrom tries s p) → In x (places s)
   pub after : d < p
-  pub list : ms ≡ subsAmong s d (placesFrom tries s p)
+  pub list : rs ≡ amongst s t d (placesFrom tries s p)
 
 keep-none : {A : Type 0} (t : A → Bool) (xs : List A) → ((x : A) → In x xs → t x ≡ false) → keep t xs ≡ []
 keep-none t [] h = refl
 keep-none t (x ∷ xs) h = rw (h x (inl refl), keep) (keep-none t xs (λ y i. h y (inr i)))
 
-module _ (s : Recipe) (d : ℕ) (whole : stop s ≡ length (s .bytes)) where
+module _ (s : Recipe) (t : ℕ → Bool) (d : ℕ) (whole : stop s ≡ length (s .bytes)) where
   -- no record before d, nor d, is one of d
   before-start : (n p₀ : ℕ) → In d (placesFrom n s p₀) → isModel s d ≡ true → length (s .bytes) ≤ p₀ + n → stop s ≡ stopFrom n s p₀
-      → ((x : ℕ) → In x (placesFrom n s p₀) → In x (places s)) → Rest s d (next s d) (subsAmong s d (placesFrom n s p₀))
+      → ((x : ℕ) → In x (placesFrom n s p₀) → In x (places s)) → Rest s t d (next s d) (amongst s t d (placesFrom n s p₀))
   unfolding placesFrom stopFrom
   before-start zero p₀ i m e st ins = absurd i
   before-start (suc n) p₀ i m e st ins =
@@ -104,7 +94,7 @@ module _ (s : Recipe) (d : ℕ) (whole : stop s ≡ length (s .bytes)) where
         stops = rw (b, stopFrom, ← q) at st;
         inside = λ x j. ins x (rw (b, placesFrom) (inr (rw q at j)));
         after = next-more s d;
-        list = ap (λ (z : ℕ). subsAmong s d (placesFrom n s (next s z))) (sym q);
+        list = ap (λ (z : ℕ). amongst s t d (placesFrom n s (next s z))) (sym q);
       }))
       (λ (j : In d (placesFrom n s (next s p₀))).
       let l = places-least s n (next s p₀) d j in
@@ -116,14 +106,14 @@ module _ (s : Recipe) (d : ℕ) (whole : stop s ≡ length (s .bytes)) where
       (rw (b, placesFrom) at i))
       (λ b. absurd (rw (b, placesFrom) at i))
 
-  pub rest-start : In d (definitions s) → Rest s d (next s d) (submodels s d)
-  unfolding submodels recordsOf places stop
+  pub rest-start : In d (definitions s) → Rest s t d (next s d) (keep t (recordsOf s d))
+  unfolding recordsOf places stop
   rest-start i =
       let h = definition-place s d i in
       before-start (length (s .bytes)) 0 (h .0) (h .1) (omega arith) refl (λ x j. j)
 
   -- what there is at a record
-  pub record Met (p : ℕ) (ms : List ℕ) : Type 0 where
+  pub record Met (p : ℕ) (rs : List ℕ) : Type 0 where
     pub tries : ℕ
     pub enough : length (s .bytes) ≤ next s p + tries
     pub readable : isReadable s p ≡ true
@@ -131,13 +121,13 @@ module _ (s : Recipe) (d : ℕ) (whole : stop s ≡ length (s .bytes)) where
     pub place : In p (places s)
     pub inside : (x : ℕ) → In x (placesFrom tries s (next s p)) → In x (places s)
     pub after : d < p
-    pub list : ms ≡ subsAmong s d (p ∷ placesFrom tries s (next s p))
+    pub list : rs ≡ amongst s t d (p ∷ placesFrom tries s (next s p))
 
-  met-at : (p : ℕ) (ms : List ℕ) (n : ℕ) → length (s .bytes) ≤ p + n → stop s ≡ stopFrom n s p → ((x : ℕ) → In x (placesFrom n s p) → In x (places s))
-      → d < p → ms ≡ subsAmong s d (placesFrom n s p) → p < length (s .bytes) → Met p ms
+  met-at : (p : ℕ) (rs : List ℕ) (n : ℕ) → length (s .bytes) ≤ p + n → stop s ≡ stopFrom n s p → ((x : ℕ) → In x (placesFrom n s p) → In x (places s))
+      → d < p → rs ≡ amongst s t d (placesFrom n s p) → p < length (s .bytes) → Met p rs
   unfolding stopFrom placesFrom
-  met-at p ms zero e st i a r l = absurd (omega arith)
-  met-at p ms (suc n) e st i a r l =
+  met-at p rs zero e st i a r l = absurd (omega arith)
+  met-at p rs (suc n) e st i a r l =
       by-cases (isReadable s p)
       (λ b. record {
         tries = n;
@@ -151,19 +141,19 @@ module _ (s : Recipe) (d : ℕ) (whole : stop s ≡ length (s .bytes)) where
       })
       (λ b. let q : stop s ≡ p = rw (b, stopFrom) at st in absurd (omega arith))
 
-  pub met : {p : ℕ} {ms : List ℕ} → Rest s d p ms → p < length (s .bytes) → Met p ms
-  met {p} {ms} r l = met-at p ms (r .tries) (r .enough) (r .stops) (r .inside) (r .after) (r .list) l
+  pub met : {p : ℕ} {rs : List ℕ} → Rest s t d p rs → p < length (s .bytes) → Met p rs
+  met {p} {rs} r l = met-at p rs (r .tries) (r .enough) (r .stops) (r .inside) (r .after) (r .list) l
 
-  pub met-fits : {p : ℕ} {ms : List ℕ} → Met p ms → next s p ≤ length (s .bytes)
-  met-fits {p} {ms} m = readable-fits s p (m .readable)
+  pub met-fits : {p : ℕ} {rs : List ℕ} → Met p rs → next s p ≤ length (s .bytes)
+  met-fits {p} {rs} m = readable-fits s p (m .readable)
 
-  pub rest-end : {p : ℕ} {ms : List ℕ} → Rest s d p ms → length (s .bytes) ≤ p → ms ≡ []
-  rest-end {p} {ms} r l = r .list ∙ ap (subsAmong s d) (none-past s (r .tries) p l)
+  pub rest-end : {p : ℕ} {rs : List ℕ} → Rest s t d p rs → length (s .bytes) ≤ p → rs ≡ []
+  rest-end {p} {rs} r l = r .list ∙ ap (amongst s t d) (none-past s (r .tries) p l)
 
   -- at a record of another definition, none is left
-  pub rest-stop : In d (definitions s) → {p : ℕ} {ms : List ℕ} → Met p ms → (holder s p ≡ d → ⊥) → ms ≡ []
-  rest-stop i {p} {ms} m other =
-      m .list ∙ ap (keep (isSubmodel s))
+  pub rest-stop : In d (definitions s) → {p : ℕ} {rs : List ℕ} → Met p rs → (holder s p ≡ d → ⊥) → rs ≡ []
+  rest-stop i {p} {rs} m other =
+      m .list ∙ ap (keep t)
       (keep-none (isOf s d) (p ∷ placesFrom (m .tries) s (next s p))
       (λ x j.
       let l : p ≤ x = ⊎-elim (λ (q : x ≡ p). omega arith) (λ (k : In x (placesFrom (m .tries) s (next s p))). omega (arith, places-least s (m .tries) (next s p) x k, next-more s p)) j in
@@ -175,25 +165,25 @@ module _ (s : Recipe) (d : ℕ) (whole : stop s ≡ length (s .bytes)) where
       (λ z. rw z (and-false (not (isModel s x))))))
 
   -- a record whose holder is d is no model
-  met-not-model : {p : ℕ} {ms : List ℕ} → Met p ms → holder s p ≡ d → isModel s p ≡ false
-  met-not-model {p} {ms} m h =
+  met-not-model : {p : ℕ} {rs : List ℕ} → Met p rs → holder s p ≡ d → isModel s p ≡ false
+  met-not-model {p} {rs} m h =
       by-cases (isModel s p)
       (λ e. let a = m .after in let u = holder-above s p p (in-definitions s p (m .place) e) (omega arith) in absurd (omega arith))
       (λ e. e)
 
-  pub rest-more : {p : ℕ} {ms : List ℕ} → Met p ms → holder s p ≡ d → isSubmodel s p ≡ true → (rest : List ℕ) × ((ms ≡ p ∷ rest) × Rest s d (next s p) rest)
-  rest-more {p} {ms} m h k =
+  pub rest-more : {p : ℕ} {rs : List ℕ} → Met p rs → holder s p ≡ d → t p ≡ true → (rest : List ℕ) × ((rs ≡ p ∷ rest) × Rest s t d (next s p) rest)
+  rest-more {p} {rs} m h k =
       let a = m .after in
       let plain = met-not-model m h in (
-        subsAmong s d (placesFrom (m .tries) s (next s p)),
+        amongst s t d (placesFrom (m .tries) s (next s p)),
         (
           m .list ∙ rw (plain, eq-eqb (holder s p) d h, keep, k, keep),
           record { tries = m .tries; enough = m .enough; stops = m .stops; inside = m .inside; after = omega (arith, next-more s p); list = refl },
         ),
       )
 
-  pub rest-skip : {p : ℕ} {ms : List ℕ} → Met p ms → holder s p ≡ d → isSubmodel s p ≡ false → Rest s d (next s p) ms
-  rest-skip {p} {ms} m h k =
+  pub rest-skip : {p : ℕ} {rs : List ℕ} → Met p rs → holder s p ≡ d → t p ≡ false → Rest s t d (next s p) rs
+  rest-skip {p} {rs} m h k =
       let a = m .after in
       let plain = met-not-model m h in
       record {
