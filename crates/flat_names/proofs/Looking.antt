@@ -5,15 +5,15 @@ use mathlib.Core.Logic.{⊎-elim}
 use Prim.Native.Nat.{ℕ, _+_, _-_, _≤_, _<_, max}
 use native.Mathlib.Omega.{arith}
 use native.Mathlib.Nat.{add-sub-cancel-left}
-use mathlib.Core.Bool.{Bool, true, false, _||_}
+use mathlib.Core.Bool.{Bool, true, false, not, _||_}
 use mathlib.Core.List.{List, [], _∷_, map}
 use lib.ListN.{length, getD, take, drop, length-drop}
-use lib.Seq.{take-take, drop-drop, take-add, drop-at, length-take-le}
+use lib.Seq.{take-take, drop-drop, take-add, drop-at, length-take-le, getD-take, getD-drop}
 use lib.Dec.{eqb}
-use borrow.Author.Tests.{eqb-true}
+use borrow.Author.Tests.{eqb-true, eq-eqb}
 use Rattle.names.specs.Lists.{In, keep, same, every}
 use Rattle.names.specs.Names.{text, nonZero, fieldAt}
-use Rattle.names.proofs.Tests.{not-both, or-cases}
+use Rattle.names.proofs.Tests.{by-cases, not-both, or-cases}
 use Rattle.names.proofs.Lists.{take-while, same-true, eq-same}
 use Rattle.recipe.specs.Records.{Recipe, kind, places, stop, next, recordLength, isModel, isElement, isSubmodel, field, firstField, name}
 use Rattle.recipe.specs.Definitions.{definitions, holder, recordsOf, submodels, modelOf, isDeclared}
@@ -21,11 +21,12 @@ use Rattle.recipe.proofs.Definitions.{in-submodels, name-short, holder-in, mode
 use Rattle.recipe.proofs.Going.{class-low}
 use Rattle.recipe.proofs.Reading.{readable, readable-fits, next-more}
 use Rattle.recipe.proofs.RecordLengths.{length-submodel}
+use Rattle.recipe.proofs.Rows.{submodel-name}
 use Rattle.recipe.proofs.Spans.{Rest, rest-start, Met, met, met-fits, rest-end, rest-stop, rest-more, rest-skip, definition-place, definition-fits}
 use Rattle.shadow.specs.Columns.{Numbered, Linked}
 use Rattle.flat_names.specs.Prefixes.{declaredNames}
-use Rattle.flat_names.specs.Underscores.{runFirst, runBehind, raised, raises, lastTry}
-use Rattle.flat_names.proofs.Underscores.{text-nonzero, behind-field, behind-other, raised-is, last-more, tried-more}
+use Rattle.flat_names.specs.Underscores.{runFirst, runBehind, raised, raises, lastTry, Stem}
+use Rattle.flat_names.proofs.Underscores.{text-nonzero, counted, behind-field, behind-other, raised-is, last-more, tried-more}
 
 -- a part of a part
 drop-take : (n k : ℕ) (l : List ℕ) → n ≤ length l → drop n (take (n + k) l) ≡ take k (drop n l)
@@ -63,6 +64,11 @@ module _ (s : Recipe) where
   unfolding name
   nonzero-name m = text-nonzero (firstField s m)
 
+  first-byte : (p n : ℕ) → 1 ≤ n → getD (take (p + 1 + n - (p + 1)) (drop (p + 1) (s .bytes))) 0 0 ≡ getD (s .bytes) (p + 1) 0
+  first-byte p n l =
+      let z : p + 1 + 0 ≡ p + 1 = omega arith in
+      getD-take (p + 1 + n - (p + 1)) (drop (p + 1) (s .bytes)) 0 0 (omega arith) ∙ (getD-drop (p + 1) (s .bytes) 0 0 ∙ ap (λ (k : ℕ). getD (s .bytes) k 0) z)
+
   -- ---- the run behind the name of m in that of p: the n bytes of both are compared
   module _ (p m n : ℕ) (e : n ≡ length (name s m)) {b : Bool}
       (t : b ≡ same (take (p + 1 + n - (p + 1)) (drop (p + 1) (s .bytes))) (take (m + 1 + n - (m + 1)) (drop (m + 1) (s .bytes)))) where
@@ -88,19 +94,38 @@ module _ (s : Recipe) where
         ∙ (ap (λ (j : ℕ). drop n (take j d)) z ∙ rw (first-is p, e))) in
         c ∙ (ap runFirst cut ∙ behind-field (name s m) (firstField s p) (nonzero-name m) (same-true _ _ (sym compared ∙ h)))
 
+  -- its first byte, or that behind as many, tells that there is none
+  pub run-none : (p m n : ℕ) → Stem s m n → p + 1 + s .width ≤ length (s .bytes)
+      → not (eqb (getD (s .bytes) (p + 1) 0) (getD (s .bytes) (m + 1) 0)) || not (eqb (getD (s .bytes) (p + 1 + n) 0) 95) ≡ true
+      → 0 ≡ runBehind (name s m) (name s p)
+  run-none p m n x r h =
+      let l = x .fits in
+      let some = x .some in
+      let a = take (p + 1 + n - (p + 1)) (drop (p + 1) (s .bytes)) in
+      let b = take (m + 1 + n - (m + 1)) (drop (m + 1) (s .bytes)) in
+      by-cases (same a b)
+      (λ t.
+      let first : getD (s .bytes) (p + 1) 0 ≡ getD (s .bytes) (m + 1) 0 = sym (first-byte p n some) ∙ (ap (λ (z : List ℕ). getD z 0 0) (same-true a b t) ∙ first-byte m n some) in
+      run-here p m n (x .long) refl t r 0
+      (counted (s .bytes) (p + 1 + n) (s .width - n) 0 (omega arith) (omega arith) (λ j q. absurd (omega arith))
+      (λ q f.
+      let z : p + 1 + n + 0 ≡ p + 1 + n = omega arith in
+      not-both h (rw (eq-eqb (getD (s .bytes) (p + 1) 0) (getD (s .bytes) (m + 1) 0) first, eq-eqb (getD (s .bytes) (p + 1 + n) 0) 95 (rw z at f)) refl))))
+      (λ t. run-other p m n (x .long) refl t)
+
   -- ---- kinds
   declared-is : (p : ℕ) {b : Bool} → eqb (getD (s .bytes) p 0) 2 || eqb (getD (s .bytes) p 0) 4 ≡ b → isDeclared s p ≡ b
   unfolding isDeclared isElement isSubmodel kind
   declared-is p e = e
 
-  submodel-room : (m : ℕ) → In m (places s) → isSubmodel s m ≡ true → m + 1 + s .width ≤ length (s .bytes)
+  submodel-room : (m : ℕ) → In m (places s) → isSubmodel s m ≡ true → m + 1 + s .width + s .width ≤ length (s .bytes)
   unfolding isSubmodel next
   submodel-room m i e = omega (arith, readable-fits s m (readable s m i), length-submodel (s .width) (eqb-true (kind s m) 4 e))
 
-  declared-room : (p : ℕ) → In p (places s) → isDeclared s p ≡ true → p + 1 + s .width ≤ length (s .bytes)
+  declared-room : 1 ≤ s .width → (p : ℕ) → In p (places s) → isDeclared s p ≡ true → p + 1 + s .width < length (s .bytes)
   unfolding isDeclared
-  declared-room p i e =
-      ⊎-elim (λ (h : isElement s p ≡ true). omega (arith, class-low s p i h)) (λ (h : isSubmodel s p ≡ true). submodel-room p i h)
+  declared-room w p i e =
+      ⊎-elim (λ (h : isElement s p ≡ true). class-low s p i h) (λ (h : isSubmodel s p ≡ true). omega (arith, submodel-room p i h))
       (or-cases (isElement s p) (isSubmodel s p) e)
 
 -- ---- what a look at the names of d has at p: the count u, where it began with u₀
@@ -115,6 +140,7 @@ pub record RaiseLoop (s : Recipe) (d m u₀ p u : ℕ) : Type 0 where
 
 -- at a record of the definition
 pub record Own (s : Recipe) (d m u₀ p u : ℕ) : Type 0 where
+  pub wide : 1 ≤ s .width
   pub whole : stop s ≡ length (s .bytes)
   pub look : RaiseLoop s d m u₀ p u
   pub low : p < length (s .bytes)
@@ -163,14 +189,14 @@ module _ {s : Recipe} {t : List ℕ} {d m u₀ p u : ℕ} (x : Numbered s t) (i 
     at-other other = none-left (rest-stop s (isDeclared s) d (x .shadowed .whole) i here (λ q. other (held-by ∙ q)))
 
     pub at-own : h ≡ d → Own s d m u₀ p u
-    at-own q = record { whole = x .shadowed .whole; look = g; low = l; held = sym held-by ∙ q }
+    at-own q = record { wide = omega (arith, x .shadowed .wide); whole = x .shadowed .whole; look = g; low = l; held = sym held-by ∙ q }
 
 module _ {s : Recipe} {d m u₀ p u : ℕ} (o : Own s d m u₀ p u) where
   own-met : Met s (isDeclared s) d (o .whole) p (o .look .left)
   own-met = met s (isDeclared s) d (o .whole) (o .look .goes) (o .low)
 
-  pub own-declared : eqb (getD (s .bytes) p 0) 2 || eqb (getD (s .bytes) p 0) 4 ≡ true → p + 1 + s .width ≤ length (s .bytes)
-  own-declared k = declared-room s p (own-met .place) (declared-is s p k)
+  pub own-declared : eqb (getD (s .bytes) p 0) 2 || eqb (getD (s .bytes) p 0) 4 ≡ true → p + 1 + s .width < length (s .bytes)
+  own-declared k = declared-room s (o .wide) p (own-met .place) (declared-is s p k)
 
   module _ {n : ℕ} (len : n ≡ recordLength (s .width) (getD (s .bytes) p 0)) where
     own-next : p + n ≡ next s p
@@ -224,7 +250,10 @@ module _ {s : Recipe} {t : List ℕ} (x : Linked s t) (m : ℕ) (i : In m (submo
   placed = in-submodels s (holder s m) m i .placed
 
   pub own-room : m + 1 + s .width ≤ length (s .bytes)
-  own-room = submodel-room s m placed (in-submodels s (holder s m) m i .passes)
+  own-room = omega (arith, submodel-room s m placed (in-submodels s (holder s m) m i .passes))
+
+  pub stem : {n : ℕ} → n ≡ length (name s m) → Stem s m n
+  stem {n} e = record { inside = own-room; long = e; some = omega (arith, submodel-name s (x .row₃) (holder s m) m i); fits = omega (arith, name-short s m) }
 
   -- by the shadow
   pub both-in : {d e : ℕ} → d ≡ getD t (m + 0) 0 → e ≡ getD t (m + 3) 0 → Both s m d e

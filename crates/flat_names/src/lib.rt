@@ -15,7 +15,7 @@ ghost use Rattle.tree.specs.Tree.{instances, node, treeElements};
 ghost use Rattle.tree.specs.Planted.{Planted};
 ghost use Rattle.shadow.specs.Columns.{Numbered, Linked};
 ghost use Rattle.flat_names.specs.Prefixes.{declaredNames, namesAround, fewest, prefix, flatName};
-ghost use Rattle.flat_names.specs.Underscores.{runFirst, runBehind, lastTry};
+ghost use Rattle.flat_names.specs.Underscores.{runFirst, runBehind, lastTry, Stem};
 ghost use Rattle.flat_names.specs.Rows.{Naming, Prefixed, rowWidth};
 use shadow::cell;
 
@@ -121,13 +121,16 @@ pub fn count_underscores(s: &[u8], a: usize, n: usize) -> u8
     k
 }
 
-// How many underscores follow the name of m, of n bytes, in the name of p, if that begins with it.
+// How many underscores follow the name of m, of n bytes, in the name of p, if that begins with it. Its first byte and the one behind are looked at before all.
 fn run_behind(s: &[u8], w: usize, p: usize, m: usize, n: usize) -> u8
-    requires { ⌜ (w ≤ 64) × ((p + 1 + w ≤ length (now s)) × ((m + 1 + w ≤ length (now s)) × (n ≡ length (name (recipeAt w (now s)) m)))) ⌝ }
+    requires { ⌜ (w ≤ 64) × ((p + 1 + w < length (now s)) × Stem (recipeAt w (now s)) m n) ⌝ }
     ensures { λ r. ⌜ r ≡ runBehind (name (recipeAt w (now (s .entry))) m) (name (recipeAt w (now (s .entry))) p) ⌝ }
 {
     let a = p + 1;
     let b = m + 1;
+    if (s[a] != s[b]) | (s[a + n] != UNDERSCORE) {
+        return 0;
+    }
     if !names::is_same(&s[a..a + n], &s[b..b + n]) {
         return 0;
     }
@@ -136,7 +139,7 @@ fn run_behind(s: &[u8], w: usize, p: usize, m: usize, n: usize) -> u8
 
 // The count u after the names of definition d were looked at: each that has as many underscores behind the name of m, of n bytes, raises it.
 fn raise_count(s: &[u8], w: usize, t: &[u16], d: usize, m: usize, n: usize, u: u8) -> u8
-    requires { ⌜ Numbered (recipeAt w (now s)) (now t) × (In d (definitions (recipeAt w (now s))) × ((m + 1 + w ≤ length (now s)) × ((n ≡ length (name (recipeAt w (now s)) m)) × (1 ≤ u)))) ⌝ }
+    requires { ⌜ Numbered (recipeAt w (now s)) (now t) × (In d (definitions (recipeAt w (now s))) × (Stem (recipeAt w (now s)) m n × (1 ≤ u))) ⌝ }
     ensures { λ r. ⌜ r ≡ lastTry (name (recipeAt w (now (s .entry))) m) (declaredNames (recipeAt w (now (s .entry))) d) u ⌝ }
 {
     let mut count = u;

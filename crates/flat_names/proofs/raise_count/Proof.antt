@@ -25,7 +25,7 @@ add-p c =
 loop-holds : tie.Need-loop-holds Inv-loop μ-loop
 loop-holds c =
     let at-start = c .before .before .before in
-    look-start (record { width = at-start .args .w; bytes = at-start .args .s .now }) (at-start .pre .0 .shadowed .whole) (at-start .args .d) (at-start .args .m) (at-start .args .u) (at-start .pre .1 .0) (at-start .pre .1 .1 .1 .1) _ (c .length-by-kind .ensures)
+    look-start (record { width = at-start .args .w; bytes = at-start .args .s .now }) (at-start .pre .0 .shadowed .whole) (at-start .args .d) (at-start .args .m) (at-start .args .u) (at-start .pre .1 .0) (at-start .pre .1 .1 .1) _ (c .length-by-kind .ensures)
 
 returns : tie.Need-returns Inv-loop μ-loop
 returns c =
@@ -35,7 +35,7 @@ returns c =
 run-behind-requires : tie.Need-run-behind-requires Inv-loop μ-loop
 run-behind-requires c κs =
     let at-if1 = c .before .before in let at-cell = at-if1 .before in let at-loop-test = at-cell .before in let at-loop = at-loop-test .before in let at-start = at-loop .before .before .before .before in
-    let o = at-own (at-start .pre .0) (at-start .pre .1 .0) (at-loop .loop .inv) (at-loop-test .loop-test .taken) (at-cell .cell .ensures .0) (at-if1 .if1 .left) in (at-start .pre .0 .shadowed .narrow, (own-declared o (c .if2 .taken), (at-start .pre .1 .1 .0, at-start .pre .1 .1 .1 .0)))
+    let o = at-own (at-start .pre .0) (at-start .pre .1 .0) (at-loop .loop .inv) (at-loop-test .loop-test .taken) (at-cell .cell .ensures .0) (at-if1 .if1 .left) in (at-start .pre .0 .shadowed .narrow, (own-declared o (c .if2 .taken), at-start .pre .1 .1 .0))
 
 add-larger : tie.Need-add-larger Inv-loop μ-loop
 add-larger c =
