@@ -12,7 +12,7 @@ CRATES = {
     "tree": ["Tree", "Faults"],
     "marks": ["Marks", "Faults"],
     "compose": ["Rows"],
-    "flat_names": ["Prefixes"],
+    "flat_names": ["Prefixes", "Underscores"],
     "composer": ["Flat", "Verdicts", "Printed"],
     "origins": ["Origins"],
     "factors": ["Companion"],

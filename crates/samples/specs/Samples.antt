@@ -10,6 +10,7 @@ use Rattle.names.specs.Lists.{every, same, padded}
 use Rattle.flat_table.specs.Table.{mostRows, flatWidth, flatLength, tableVerdict}
 use Rattle.flat_table.specs.declared.TableAnswer.{TableAnswer}
 use Rattle.recipe.specs.Records.{Recipe, bodies, bytesOf}
+use Rattle.flat_names.specs.Underscores.{tries}
 use Rattle.composer.specs.declared.Answer.{Answer}
 use Rattle.composer.specs.Verdicts.{nameWidth, recipeOf, refused, verdict, written}
 use Rattle.composer.specs.Printed.{characters, programOutput}
@@ -446,9 +447,15 @@ lengthsHold =
     && eqb (flatLength nameWidth) 205
     && eqb (mostRows * flatLength nameWidth) 209920
 
+-- 02's "from the first try to the last": two, three behind the name with two underscores, and twelve behind that with eleven; names with fewer, and other names, raise nothing
+unfoldable pub triesHold : Bool
+triesHold =
+    same (tries (characters "a") (map characters ("b____" ∷ "a_x" ∷ "a__" ∷ "a__x" ∷ "a___________" ∷ "a_____" ∷ []))) (2 ∷ 3 ∷ 12 ∷ [])
+
 -- the others
 unfoldable pub moreHold : Bool
 moreHold =
     every holdsOf moreOfReading && every holdsOf moreOfTree && every holdsOf moreOfConflicts && every holdsOf moreOfGone && every holdsOf moreOfPrefixes
     && every tableHoldsOf moreTables
     && lengthsHold
+    && triesHold
