@@ -47,6 +47,7 @@ pub fn examples() -> Vec<Named> {
         "port-onto-gone",
         "figure-8",
         "hours-and-seconds",
+        "twelve-underscores",
     ];
     let named = |(what, text): (&str, &str)| {
         let example = parse_example(text).expect("an example file");
@@ -469,9 +470,22 @@ pub fn edges() -> Vec<Named> {
             "flat 2\n2 a__a__a__a__s - z__w\n1 z__w - -",
         ),
         named(
-            "12 underscores",
+            "12 underscores because of an inner name",
             "model top\nsubmodel a of cell\nmodel cell\nparameter a___________",
             "flat 1\n3 a____________a___________ - -",
+        ),
+        named(
+            "11 underscores, though an inner name asks for 3",
+            "model top\nsubmodel a of cell\nparameter a__________x\nmodel cell\nparameter a__x",
+            "flat 2\n3 a__________x - -\n3 a___________a__x - -",
+        ),
+        named(
+            "12 underscores on two levels",
+            "model top\nsubmodel a of mid\nparameter a___________
+             model mid\nsubmodel b of low\nparameter b___________
+             model low\ncompartment v",
+            "flat 3\n3 a___________ - -\n3 a____________b___________ - -
+1 a____________b____________v - -",
         ),
         named(
             "a submodel's name begins with another's prefix",
