@@ -356,6 +356,17 @@ moreOfPrefixes =
     ∷ gives (pair (deletion "a" 0 "a__x") (element "a__x" 1 "" "")) 410 2 (row 1 "c" "" "" ++ row 1 "a___v" "" "")
     -- "The count is at most 12": behind a name with eleven
     ∷ gives (pair (element "a___________" 3 "" "") []) 615 3 (row 1 "c" "" "" ++ row 3 "a___________" "" "" ++ row 1 "a____________v" "" "")
+    -- the same, with that name in the instantiated definition
+    ∷ gives (model "top" ++ submodel "a" "cell" ++ (model "cell" ++ element "a___________" 3 "" "")) 205 1 (row 3 "a____________a___________" "" "")
+    -- "the fewest underscores .. such that no name" of both begins with it: eleven for the outer one, though three would do for the inner
+    ∷ gives (model "top" ++ submodel "a" "cell" ++ element "a__________x" 3 "" "" ++ (model "cell" ++ element "a__x" 3 "" "")) 410 2
+    (row 3 "a__________x" "" "" ++ row 3 "a___________a__x" "" "")
+    -- "the prefixes from main downward": twelve in each of two
+    ∷ gives
+    (model "top" ++ submodel "a" "mid" ++ element "a___________" 3 "" ""
+    ++ (model "mid" ++ submodel "b" "low" ++ element "b___________" 3 "" "")
+    ++ (model "low" ++ element "v" 1 "" "")) 615 3
+    (row 3 "a___________" "" "" ++ row 3 "a____________b___________" "" "" ++ row 1 "a____________b____________v" "" "")
     ∷ []
 
 -- ---- tables
