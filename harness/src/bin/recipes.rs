@@ -40,7 +40,7 @@ const LEAST_WITH_ENTRIES: usize = 10_000;
 const DEPTHS: RangeInclusive<usize> = 1..=4;
 const LEAST_OF_A_DEPTH: usize = 1_000;
 /// How many mutants the proved recipes must tell.
-const LEAST_TOLD_BY_PROVED: usize = 115;
+const LEAST_TOLD_BY_PROVED: usize = 120;
 
 fn main() -> ExitCode {
     match asked("recipes") {

@@ -27,6 +27,13 @@ pub(super) enum ReplacedBy {
 /// The names of a kind 8 record's factors.
 type Factors<'a> = [&'a [u8]; 2];
 
+/// How many underscores a submodel's outer names need, its inner names, and both together.
+pub(super) struct Needed {
+    pub(super) outer: usize,
+    pub(super) inner: usize,
+    pub(super) both: usize,
+}
+
 /// The rules of a flattening program; the default ones are 01's and 02's.
 pub struct Rules {
     pub(super) longest_recipe: usize,
@@ -110,13 +117,15 @@ pub struct Rules {
     /// Is the table written before the companion's length is looked at?
     pub(super) table_goes_first: bool,
     pub(super) order_of_tree: TreeOrder,
-    /// Are names of the containing and of the instantiated definition tried?
-    pub(super) outer_names: bool,
-    pub(super) inner_names: bool,
     /// Are names of records of this kind tried?
     pub(super) tried: fn(Kind) -> bool,
     pub(super) gone_names: bool,
+    /// How many underscores are tried.
     pub(super) underscores: RangeInclusive<usize>,
+    /// Does a name take a prefix?
+    pub(super) takes: fn(&[u8], &[u8]) -> bool,
+    /// How many underscores are written, where so many are needed.
+    pub(super) written: fn(Needed) -> usize,
     /// Is a prefix written, by its number from main downward, by how many there are, and by the
     /// number of the submodel in its definition?
     pub(super) prefixed: fn(usize, usize, usize) -> bool,
@@ -206,11 +215,11 @@ impl Default for Rules {
             short_companion: false,
             table_goes_first: false,
             order_of_tree: TreeOrder::DepthFirst,
-            outer_names: true,
-            inner_names: true,
             tried: |kind| matches!(kind, Kind::Element | Kind::Submodel),
             gone_names: true,
             underscores: 2..=12,
+            takes: |name, prefix| name.starts_with(prefix),
+            written: |needed| needed.both,
             prefixed: |_, _, _| true,
             nothing_is_written: false,
             rest_is_zeroed: false,
@@ -416,10 +425,10 @@ pub const MUTANTS: &[(&str, Bend)] = &[
         r.order_of_tree = TreeOrder::AsRecorded
     }),
     ("the prefix is tried on inner names only", |r| {
-        r.outer_names = false
+        r.written = |needed| needed.inner
     }),
     ("the prefix is tried on outer names only", |r| {
-        r.inner_names = false
+        r.written = |needed| needed.outer
     }),
     ("the prefix is tried on elements only", |r| {
         r.tried = |kind| kind == Kind::Element
@@ -437,6 +446,30 @@ pub const MUTANTS: &[(&str, Bend)] = &[
     ("three underscores are the most", |r| r.underscores = 2..=3),
     ("eleven underscores are the most", |r| {
         r.underscores = 2..=11
+    }),
+    ("outer names are forgotten if inner need three", |r| {
+        r.written = |needed| match needed.inner {
+            2 => needed.outer,
+            more => more,
+        }
+    }),
+    ("the longest run is added to two", |r| {
+        r.written = |needed| match needed.both {
+            2 => 2,
+            more => 2 + (more - 1),
+        }
+    }),
+    ("one underscore fewer is written than counted", |r| {
+        r.written = |needed| needed.both - 1
+    }),
+    ("as many underscores as the longest run has", |r| {
+        r.takes = |name, prefix| {
+            let rest = name.strip_prefix(prefix);
+            rest.is_some_and(|rest| rest.starts_with(b"_"))
+        }
+    }),
+    ("a name that is the prefix doesn't take it", |r| {
+        r.takes = |name, prefix| name.starts_with(prefix) && name != prefix
     }),
     ("only the first prefix is written", |r| {
         r.prefixed = |number, _, _| number == 0

@@ -2,6 +2,7 @@
 //! It shares nothing with the other program but a few lengths.
 
 mod factors;
+mod prefixes;
 
 use super::rules::{ReplacedBy, Rules, TreeOrder};
 use crate::bandrolt::Answer;
@@ -842,36 +843,7 @@ impl<'a> Reading<'a> {
         ends_well.then_some(Some(end))
     }
 
-    // Prefixes, 13 and the table.
-
-    /// What an instance adds to the names in it and below it; for main nothing.
-    fn prefix(&self, instance: usize) -> Vec<u8> {
-        let Some((above, record)) = self.instances[instance].above else {
-            return Vec::new();
-        };
-        let tried = |at: usize| self.held(at).map(move |i| (at, i));
-        let outer = tried(above).filter(|_| self.rules.outer_names);
-        let inner = tried(instance).filter(|_| self.rules.inner_names);
-        let counts = |&spot: &Spot| {
-            (self.rules.tried)(self.records[spot.1].kind)
-                && (self.rules.gone_names || !self.gone.contains(&spot))
-        };
-        let names: Vec<&[u8]> = outer
-            .chain(inner)
-            .filter(counts)
-            .map(|(_, i)| self.records[i].first)
-            .collect();
-        let with = |count: usize| [self.records[record].first, &vec![b'_'; count]].concat();
-        let is_free = |prefix: &Vec<u8>| !names.iter().any(|name| name.starts_with(prefix));
-        let mut tries = self.rules.underscores.clone().map(with);
-        tries
-            .find(is_free)
-            .unwrap_or_else(|| with(*self.rules.underscores.end()))
-    }
-
-    fn prefixes(&self) -> Vec<Vec<u8>> {
-        (0..self.instances.len()).map(|i| self.prefix(i)).collect()
-    }
+    // Flat names, 13 and the table.
 
     /// The instances below main down to this one, each with its submodel in the one above.
     fn way(&self, instance: usize) -> Vec<(usize, Spot)> {
