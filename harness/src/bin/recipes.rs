@@ -7,7 +7,9 @@ use harness::checks::{
     companion_rooms, complaint, pattern, FLATTENERS, TABLE_CHECKS, WITH_FACTORS,
 };
 use harness::other::recipe::rules::{Rules, MUTANTS};
-use harness::other::recipe::slow::{self, conflicts, factor_cases, Conflict, FactorCase};
+use harness::other::recipe::slow::{
+    self, conflicts, deciding_sides, factor_cases, Conflict, FactorCase, Side,
+};
 use harness::other::{recipe, ENTRY, FIELD, RECORD};
 use harness::random::Random;
 use harness::recipes::enumerate::each_recipe;
@@ -39,6 +41,9 @@ const LEAST_WITH_KIND_8: usize = CASES_OF_A_SEED as usize / 2;
 const LEAST_WITH_ENTRIES: usize = 10_000;
 const DEPTHS: RangeInclusive<usize> = 1..=4;
 const LEAST_OF_A_DEPTH: usize = 1_000;
+/// The counts of underscores in a prefix; each side's names must decide each often enough.
+const COUNTS: RangeInclusive<usize> = 2..=12;
+const LEAST_OF_A_COUNT: usize = 200;
 /// How many mutants the proved recipes must tell.
 const LEAST_TOLD_BY_PROVED: usize = 120;
 
@@ -64,6 +69,8 @@ struct Outcome {
     factor_cases: BTreeMap<FactorCase, usize>,
     with_entries: usize,
     depths: BTreeMap<usize, usize>,
+    /// In how many accepted recipes a side's names decide each count of underscores.
+    underscores: BTreeMap<(Side, usize), usize>,
     /// The mutants that are tried, and for each the first recipe that tells it from 01.
     told_by: BTreeMap<usize, Option<usize>>,
 }
@@ -222,6 +229,10 @@ fn check(seed: u64) -> ExitCode {
         let is_mixed = are_often(&outcome.conflicts, wanted, LEAST_OF_A_CONFLICT);
         tally.add("each conflict is there often enough", is_mixed);
         check_factors(&outcome, &mut tally);
+        let counts = |side| COUNTS.map(move |count| (side, count));
+        let wanted = Side::BOTH.into_iter().flat_map(counts);
+        let is_mixed = are_often(&outcome.underscores, wanted, LEAST_OF_A_COUNT);
+        tally.add("each side decides each count often enough", is_mixed);
         outcomes.push(outcome);
     }
 
@@ -304,6 +315,7 @@ impl Outcome {
             factor_cases: BTreeMap::new(),
             with_entries: 0,
             depths: BTreeMap::new(),
+            underscores: BTreeMap::new(),
             told_by: mutants.map(|k| (k, None)).collect(),
         }
     }
@@ -343,6 +355,12 @@ impl Outcome {
         if answer.number == 9 {
             for conflict in conflicts(recipe) {
                 *self.conflicts.entry(conflict).or_default() += 1;
+            }
+        }
+        // With 13 it is the room alone that doesn't suffice.
+        if matches!(answer.number, 0 | 13) {
+            for decided in deciding_sides(recipe).into_iter().flatten() {
+                *self.underscores.entry(decided).or_default() += 1;
             }
         }
         self.count_factors(recipe);
@@ -390,6 +408,15 @@ impl Outcome {
         }
     }
 
+    /// The count of underscores that a side's names decide least often, in words.
+    fn rarest(&self, side: Side) -> String {
+        let often = |count: usize| self.underscores.get(&(side, count)).copied().unwrap_or(0);
+        let rarest = COUNTS.map(|count| (often(count), count)).min();
+        rarest.map_or_else(String::new, |(often, count)| {
+            format!("{count}, {often} times")
+        })
+    }
+
     fn print(&self, what: &str, start: Instant) {
         let seconds = start.elapsed().as_secs_f64();
         println!("{} {what}, {seconds:.1} s", self.recipes);
@@ -411,6 +438,8 @@ impl Outcome {
         } = self;
         println!("  kind 8 in {with_kind_8}: {factor_cases:?}");
         println!("  entries in {with_entries}, with factors at the depths {depths:?}");
+        let [outer, inner] = Side::BOTH.map(|side| self.rarest(side));
+        println!("  rarest count of underscores, decided by outer names: {outer}; by inner names: {inner}");
     }
 }
 

@@ -6,6 +6,7 @@ use super::{Record, Target};
 use crate::other::NAME;
 use crate::random::Random;
 use crate::tables::{classes, field};
+use std::collections::HashSet;
 use std::fmt::Write;
 
 pub type Seed = fn(&Random) -> Draft;
@@ -184,41 +185,66 @@ pub fn rates(random: &Random) -> Draft {
     shuffled(&recipe, random)
 }
 
-/// Names that begin with a submodel's name and underscores, around it and below it.
+/// Submodels with names of all lengths, and around them, below them or both, names that begin with theirs and a run of
+/// underscores.
 pub fn prefixes(random: &Random) -> Draft {
-    let mut recipe = String::new();
-    for level in 0..3 {
-        let mut names = vec!["a", "b", "a_b", "ab"];
-        names.truncate(1 + random.below(4));
-        let mut taken: Vec<String> = names.iter().map(|name| name.to_string()).collect();
-        let mut records: Vec<String> = match level {
-            2 => Vec::new(),
-            _ => names
-                .iter()
-                .map(|name| format!("submodel {name} of m{}", level + 1))
-                .collect(),
+    let mut levels: [Vec<String>; 3] = Default::default();
+    let mut submodels: Vec<String> = Vec::new();
+    let mut taken = HashSet::new();
+    let mut declare = |level: usize, name: String, is_submodel: bool| {
+        let class = random.pick(&["compartment", "parameter", "reaction"]);
+        let record = match is_submodel {
+            true => format!("submodel {name} of m{}", level + 1),
+            false => format!("{class} {name}"),
         };
-        for _ in 0..random.below(6) {
-            let run = "_".repeat(random.pick(&[1, 2, 2, 3, 3, 4, 11, random.below(12)]));
-            let tail = random.pick(&["", "", "a", "x_"]);
-            let mut name = format!("{}{run}{tail}", random.pick(&names));
-            name.truncate(NAME);
-            if !taken.contains(&name) {
-                let is_submodel = level < 2 && !name.ends_with('_') && random.below(3) == 0;
-                records.push(match is_submodel {
-                    true => format!("submodel {name} of m2"),
-                    false => format!("{} {name}", random.pick(&["compartment", "parameter"])),
-                });
-                taken.push(name);
-            }
+        if taken.insert((level, name)) {
+            levels[level].push(record);
         }
+    };
+    for level in 0..2 {
+        for _ in 0..1 + random.below(3) {
+            // The run comes first: of the names, few leave room for a long one.
+            let run = random.below(NAME);
+            let submodel = word(1 + random.below(NAME - run), random);
+            declare(level, submodel.clone(), true);
+            let sides = random.pick(&[[level, level + 1], [level + 1, level]]);
+            let runs = [run, random.below(run + 1)];
+            for (side, run) in sides.into_iter().zip(runs).take(1 + random.below(2)) {
+                let name = lengthened(&submodel, run, random);
+                let is_submodel = side < 2 && !name.ends_with('_') && random.below(3) == 0;
+                declare(side, name, is_submodel);
+            }
+            submodels.push(submodel);
+        }
+    }
+    let mut recipe = String::new();
+    for (level, mut records) in levels.into_iter().enumerate() {
+        // So that each prefix is written.
+        records.push("compartment e".into());
         if random.below(4) == 0 {
-            records.push(format!("port a__{} = .e", random.below(9)));
-            records.push("compartment e".into());
+            // Its name doesn't count.
+            let submodel = &submodels[random.below(submodels.len())];
+            let run = random.below(NAME + 1 - submodel.len());
+            records.push(format!("port {} = .e", lengthened(submodel, run, random)));
         }
         add_definition(&mut recipe, level, records, random);
     }
     shuffled(&recipe, random)
+}
+
+/// Letters, and underscores among them, but not at the ends; many words begin alike.
+fn word(length: usize, random: &Random) -> String {
+    let is_end = |i: usize| i == 0 || i + 1 == length;
+    let letters = |i: usize| if is_end(i) { b"abcd" } else { b"aab_" };
+    let letters = (0..length).map(letters);
+    letters.map(|of| char::from(random.pick(of))).collect()
+}
+
+/// A name, a run of underscores, and what there is room for or less.
+fn lengthened(name: &str, run: usize, random: &Random) -> String {
+    let room = NAME - name.len() - run;
+    let tail = word(random.below(room + 1), random);
+    format!("{name}{}{tail}", "_".repeat(run))
 }
 
 /// Three or four levels of submodels, with any names.

@@ -36,7 +36,8 @@ pub fn case(random: &Random) -> Vec<u8> {
         10..=11 => with_factors(aimed::doubling(random), random).encode(),
         12..=15 => greatest(grown(random).encode(), random),
         16..=20 => damaged_bytes(grown(random).encode(), random),
-        21..=31 => grown(random).encode(),
+        21..=26 => grown(random).encode(),
+        27..=31 => grown_from(aimed::prefixes, random).encode(),
         32..=34 => {
             let faults: &[Fault] = &[mark_on_two_levels, mark_on_two_levels, port_both_ways];
             faulty(with_factors(aimed::line(random), random), 1, faults, random)
@@ -73,7 +74,11 @@ pub fn deep(random: &Random) -> Vec<u8> {
 
 /// Accepted, nearly always.
 fn grown(random: &Random) -> Draft {
-    let mut draft = random.pick(SEEDS)(random);
+    grown_from(random.pick(SEEDS), random)
+}
+
+fn grown_from(seed: aimed::Seed, random: &Random) -> Draft {
+    let mut draft = seed(random);
     draft.grow(random.below(16), random);
     if random.below(3) == 0 {
         draft.add_rate(random);

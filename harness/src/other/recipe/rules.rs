@@ -1,6 +1,7 @@
 //! The rules that `slow` follows: those of 01 and of 02's factors, and bent ones.
 //! The bent ones, the mutants, are wrong programs that the generated recipes must tell from these.
 
+use super::slow::Side::{self, Inner, Outer};
 use super::slow::{Kind, Part};
 use crate::other::rules::{Row, CLASS_TABLE};
 use crate::other::{MAX_RECIPE, NAME};
@@ -27,12 +28,8 @@ pub(super) enum ReplacedBy {
 /// The names of a kind 8 record's factors.
 type Factors<'a> = [&'a [u8]; 2];
 
-/// How many underscores a submodel's outer names need, its inner names, and both together.
-pub(super) struct Needed {
-    pub(super) outer: usize,
-    pub(super) inner: usize,
-    pub(super) both: usize,
-}
+/// How many underscores are needed for the names of these sides of a submodel.
+type Needed<'a> = &'a dyn Fn(&[Side]) -> usize;
 
 /// The rules of a flattening program; the default ones are 01's and 02's.
 pub struct Rules {
@@ -124,7 +121,7 @@ pub struct Rules {
     pub(super) underscores: RangeInclusive<usize>,
     /// Does a name take a prefix?
     pub(super) takes: fn(&[u8], &[u8]) -> bool,
-    /// How many underscores are written, where so many are needed.
+    /// How many underscores are written of those that are needed.
     pub(super) written: fn(Needed) -> usize,
     /// Is a prefix written, by its number from main downward, by how many there are, and by the
     /// number of the submodel in its definition?
@@ -219,7 +216,7 @@ impl Default for Rules {
             gone_names: true,
             underscores: 2..=12,
             takes: |name, prefix| name.starts_with(prefix),
-            written: |needed| needed.both,
+            written: |needed| needed(&Side::BOTH),
             prefixed: |_, _, _| true,
             nothing_is_written: false,
             rest_is_zeroed: false,
@@ -425,10 +422,10 @@ pub const MUTANTS: &[(&str, Bend)] = &[
         r.order_of_tree = TreeOrder::AsRecorded
     }),
     ("the prefix is tried on inner names only", |r| {
-        r.written = |needed| needed.inner
+        r.written = |needed| needed(&[Inner])
     }),
     ("the prefix is tried on outer names only", |r| {
-        r.written = |needed| needed.outer
+        r.written = |needed| needed(&[Outer])
     }),
     ("the prefix is tried on elements only", |r| {
         r.tried = |kind| kind == Kind::Element
@@ -448,19 +445,19 @@ pub const MUTANTS: &[(&str, Bend)] = &[
         r.underscores = 2..=11
     }),
     ("outer names are forgotten if inner need three", |r| {
-        r.written = |needed| match needed.inner {
-            2 => needed.outer,
+        r.written = |needed| match needed(&[Inner]) {
+            2 => needed(&[Outer]),
             more => more,
         }
     }),
     ("the longest run is added to two", |r| {
-        r.written = |needed| match needed.both {
+        r.written = |needed| match needed(&Side::BOTH) {
             2 => 2,
             more => 2 + (more - 1),
         }
     }),
     ("one underscore fewer is written than counted", |r| {
-        r.written = |needed| needed.both - 1
+        r.written = |needed| needed(&Side::BOTH) - 1
     }),
     ("as many underscores as the longest run has", |r| {
         r.takes = |name, prefix| {

@@ -14,6 +14,7 @@ use std::ops::RangeInclusive;
 use Part::*;
 
 pub use factors::{factor_cases, flatten_with_factors, FactorCase};
+pub use prefixes::{deciding_sides, Side};
 
 /// What a record is.
 #[derive(Clone, Copy, PartialEq)]
@@ -131,6 +132,9 @@ type Path = (Vec<usize>, usize);
 /// A record of an instance; both by index.
 type Spot = (usize, usize);
 
+/// An instance below main, with its submodel in the one above.
+type Step = (usize, Spot);
+
 struct Instance {
     model: usize,
     above: Option<Spot>,
@@ -194,8 +198,7 @@ const BEFORE_13: RangeInclusive<u64> = 6..=25;
 const AFTER_13: RangeInclusive<u64> = 26..=40;
 
 pub fn flatten(recipe: &[u8], table: &mut [u8], rules: &Rules) -> Answer {
-    let verdict = Reading::new(recipe, rules).and_then(|mut reading| {
-        reading.judge(BEFORE_13)?;
+    let verdict = Reading::judged(recipe, rules).and_then(|mut reading| {
         reading.check_room(table)?;
         reading.judge(AFTER_13)?;
         Ok(reading.write(table))
@@ -233,8 +236,7 @@ pub struct Element {
 /// All elements of a recipe's tree, in tree order.
 pub fn elements(recipe: &[u8]) -> Result<Vec<Element>, Refusal> {
     let rules = Rules::default();
-    let mut reading = Reading::new(recipe, &rules)?;
-    reading.judge(BEFORE_13)?;
+    let reading = Reading::judged(recipe, &rules)?;
     let prefixes = reading.prefixes();
     let spots = reading.elements.iter();
     Ok(spots
@@ -332,6 +334,13 @@ impl<'a> Reading<'a> {
             elements: Vec::new(),
             gone: HashSet::new(),
         })
+    }
+
+    /// A recipe that the rows before 13 let pass.
+    fn judged(recipe: &'a [u8], rules: &'a Rules) -> Result<Self, Refusal> {
+        let mut reading = Reading::new(recipe, rules)?;
+        reading.judge(BEFORE_13)?;
+        Ok(reading)
     }
 
     fn judge(&mut self, ranks: RangeInclusive<u64>) -> Result<(), Refusal> {
@@ -846,10 +855,10 @@ impl<'a> Reading<'a> {
     // Flat names, 13 and the table.
 
     /// The instances below main down to this one, each with its submodel in the one above.
-    fn way(&self, instance: usize) -> Vec<(usize, Spot)> {
+    fn way(&self, instance: usize) -> Vec<Step> {
         let step = |at: usize| Some((at, self.instances[at].above?));
         let up = successors(step(instance), |&(_, (above, _))| step(above));
-        let mut way: Vec<(usize, Spot)> = up.collect();
+        let mut way: Vec<Step> = up.collect();
         way.reverse();
         way
     }

@@ -14,8 +14,7 @@ pub fn flatten_with_factors(
     companion: &mut [u8],
     rules: &Rules,
 ) -> FactorsAnswer {
-    let counted = Reading::new(recipe, rules).and_then(|mut reading| {
-        reading.judge(BEFORE_13)?;
+    let counted = Reading::judged(recipe, rules).and_then(|mut reading| {
         reading.check_room(table)?;
         if rules.table_goes_first {
             reading.write(table);
