@@ -26,7 +26,7 @@ raise-count-requires c κs =
 raise-count-requires-2 : tie.Need-raise-count-requires-2
 raise-count-requires-2 c κs =
     let at-cell2 = c .before in let at-cell = at-cell2 .before in let at-name-length = at-cell .before in let at-start = at-name-length .before .before .before in
-    let b = both-in (at-start .pre .0) (at-start .args .m) (at-start .pre .1) (at-cell .cell .ensures .0) (at-cell2 .cell2 .ensures .0) in (at-start .pre .0 .numbered, (search (b .outer-in, b .inner-in), (stem (at-start .pre .0) (at-start .args .m) (at-start .pre .1) (at-name-length .name-length .ensures), last-some _ _ _ (c .raise-count .ensures) (omega arith))))
+    let b = both-in (at-start .pre .0) (at-start .args .m) (at-start .pre .1) (at-cell .cell .ensures .0) (at-cell2 .cell2 .ensures .0) in (at-start .pre .0 .numbered, (search (b .outer-in, b .inner-in), (stem (at-start .pre .0) (at-start .args .m) (at-start .pre .1) (at-name-length .name-length .ensures), omega (arith, last-some _ _ _ (c .raise-count .ensures) (omega arith)))))
 
 returns : tie.Need-returns
 returns c =
