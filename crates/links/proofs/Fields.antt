@@ -30,8 +30,8 @@ use Rattle.recipe.specs.declared.Read.the-variants.{As, Refused}
 use Rattle.recipe.proofs.Reading.{known, readable, readable-fits}
 use Rattle.recipe.proofs.Bodies.{by-kind, pointer-kind, element-form, port-form, submodel-form, mark-form, factors-form}
 use Rattle.recipe.proofs.Fields.{at-2, at-4, at-8, target-at, refused-form}
-use Rattle.links.specs.Entries.{SoughtIn}
-use Rattle.links.proofs.Places.{place-room}
+use Rattle.record_index.specs.Entries.{SoughtIn}
+use Rattle.record_index.proofs.Places.{place-room}
 
 -- the field f stands at the offset q
 pub record FieldAt (s : Recipe) (f : List ℕ) (q : ℕ) : Type 0 where

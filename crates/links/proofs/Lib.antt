@@ -1,9 +1,4 @@
--- The laws behind rows 4 and 5.
-pub mod Places
-pub mod Entering
-pub mod Keys
-pub mod Repeats
-pub mod Lookups
+-- The laws behind row 5 and what each record names.
 pub mod Fields
 pub mod Linking
 pub mod Targets

@@ -25,12 +25,12 @@ use Rattle.recipe.proofs.Bodies.{by-pointer, mark-kind, pointer-kind}
 use Rattle.recipe.proofs.Definitions.{element-in, in-elements}
 use Rattle.recipe.proofs.Going.{class-low}
 use Rattle.recipe.proofs.Spans.{holder-below}
-use Rattle.links.specs.declared.Answer.{Answer}
+use Rattle.record_index.specs.declared.Answer.{Answer}
 use Rattle.links.specs.declared.Held.{Held}
-use Rattle.links.specs.Entries.{recordNamed, SoughtIn, answerOf}
+use Rattle.record_index.specs.Entries.{recordNamed, SoughtIn, answerOf}
 use Rattle.links.specs.Links.{RecordRequires, Unowned, isPointing, upperOf, lowerOf, ownOf, links, linksOf}
-use Rattle.links.proofs.Places.{place-room}
-use Rattle.links.proofs.Lookups.{answer-some, answer-none, none-answer, element-look, submodel-look, definition-look}
+use Rattle.record_index.proofs.Places.{place-room}
+use Rattle.record_index.proofs.Lookups.{answer-some, answer-none, none-answer, element-look, submodel-look, definition-look}
 use Rattle.links.proofs.Fields.{FieldAt, sought, filled}
 
 -- a definition's number fits

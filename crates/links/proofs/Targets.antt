@@ -26,12 +26,12 @@ use Rattle.shadow.specs.Shadow.{Cell, Kept}
 use Rattle.shadow.specs.Columns.{Linked, Unpaired}
 use Rattle.shadow.proofs.Cells.{cell-over, RowWritten, row-none, row-set, row-left, row-room, Filling}
 use Rattle.shadow.proofs.Columns.{numbered-over}
-use Rattle.links.specs.declared.Answer.{Answer}
+use Rattle.record_index.specs.declared.Answer.{Answer}
 use Rattle.links.specs.declared.Links.{Links}
-use Rattle.links.specs.Entries.{recordNamed, SoughtIn, answerOf}
+use Rattle.record_index.specs.Entries.{recordNamed, SoughtIn, answerOf}
 use Rattle.links.specs.Links.{isPointing, upperOf, lowerOf, ownOf, linksOf, Pointed}
-use Rattle.links.proofs.Places.{place-room}
-use Rattle.links.proofs.Lookups.{element-look, port-look}
+use Rattle.record_index.proofs.Places.{place-room}
+use Rattle.record_index.proofs.Lookups.{element-look, port-look}
 use Rattle.links.proofs.Fields.{FieldAt, sought, target-at-field, way-reads, target-reads}
 use Rattle.links.proofs.Linking.{by-owned, pointing-points, pointing-filled}
 

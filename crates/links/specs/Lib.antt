@@ -1,3 +1,2 @@
--- The index of a recipe's names, and what its records name: what rows 4 and 5 are found with.
-pub mod Entries
+-- What a recipe's records name: what row 5 is found with.
 pub mod Links

@@ -16,7 +16,7 @@ use Rattle.shadow.specs.Shadow.{Cell}
 use Rattle.shadow.specs.Columns.{Numbered}
 use Rattle.links.specs.declared.Held.{Held}
 use Rattle.links.specs.declared.Links.{Links}
-use Rattle.links.specs.Entries.{IndexRequires}
+use Rattle.record_index.specs.Entries.{IndexRequires}
 
 -- rows 4 and 5, which look at what the records name
 abbrev pub declaredRows : Recipe → List Row

@@ -4,7 +4,7 @@ use Rattle.recipe.specs.Records.{Recipe}
 use mathlib.Core.Path.{sym, _∙_}
 use native.Mathlib.Omega.{arith}
 use borrow.Author.Tests.{not-true, not-false}
-use Rattle.links.proofs.Places.{place-room}
+use Rattle.record_index.proofs.Places.{place-room}
 use Rattle.links.proofs.Linking.{pointer-byte}
 use Rattle.links.proofs.Targets.{not-pointing, pointing-none, cells-room, target-kept, target-field, way-low, submodel-room, target-sought, target-written}
 use borrow.Author.Needs.{needs}

@@ -15,8 +15,8 @@ use Rattle.name_index.specs.Index.{nameOf, Keyed, Indexes}
 use Rattle.recipe.specs.Records.{Recipe, portKind, replacedByKind, kind, places, firstField}
 use Rattle.recipe.specs.Definitions.{holder, named}
 use Rattle.recipe.specs.Reading.{fault₃, fault₄}
-use Rattle.links.specs.declared.Sought.{Sought}
-use Rattle.links.specs.declared.Answer.{Answer}
+use Rattle.record_index.specs.declared.Sought.{Sought}
+use Rattle.record_index.specs.declared.Answer.{Answer}
 
 -- where a record of kind k at p, of definition d, has its name: models share one space; elements and submodels of a definition share one,
 -- its ports one, and its replaced-by's, by their owners; each record of another kind has one of its own

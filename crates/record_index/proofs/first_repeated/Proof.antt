@@ -1,13 +1,13 @@
--- `links::first_repeated` meets its contract: from the first repeat of the index.
+-- `record_index::first_repeated` meets its contract: from the first repeat of the index.
 -- Assumes nothing.
-use Rattle.links.proofs.Repeats.{indexes-at, cell-first, fault-four-some, fault-four-none}
+use Rattle.record_index.proofs.Repeats.{indexes-at, cell-first, fault-four-some, fault-four-none}
 use mathlib.Core.Path.{sym, ap, _∙_}
 use native.Mathlib.Omega.{arith}
 use Rattle.names.specs.declared.Found.the-variants.{At}
 use Rattle.names.proofs.Scans.{at-found, nothing-found, found-some, found-nothing}
 use borrow.Author.Needs.{needs}
-use Rattle.links.proofs.first_repeated.Statement.{statement}
-use Rattle.links.proofs.first_repeated.Tie as tie
+use Rattle.record_index.proofs.first_repeated.Statement.{statement}
+use Rattle.record_index.proofs.first_repeated.Tie as tie
 
 first-repeat-requires : tie.Need-first-repeat-requires
 first-repeat-requires c κs = indexes-at _ (c .before .before .before .before .before .pre)

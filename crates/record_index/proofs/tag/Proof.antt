@@ -1,12 +1,12 @@
--- `links::tag` meets its contract: kind by kind.
+-- `record_index::tag` meets its contract: kind by kind.
 -- Assumes nothing.
 use mathlib.Core.Path.{sym, _∙_}
 use native.Mathlib.Omega.{arith}
 use borrow.Author.Tests.{eq-eqb, ne-eqb}
-use Rattle.links.specs.Entries.{tagOf}
+use Rattle.record_index.specs.Entries.{tagOf}
 use borrow.Author.Needs.{needs}
-use Rattle.links.proofs.tag.Statement.{statement}
-use Rattle.links.proofs.tag.Tie as tie
+use Rattle.record_index.proofs.tag.Statement.{statement}
+use Rattle.record_index.proofs.tag.Tie as tie
 
 returns : tie.Need-returns
 unfolding tagOf

@@ -1,12 +1,12 @@
--- `links::enter_records` meets its contract: the invariant: the first i records are entered, and those from p on are left.
+-- `record_index::enter_records` meets its contract: the invariant: the first i records are entered, and those from p on are left.
 -- Assumes nothing.
 use Rattle.shadow.proofs.Cells.{walk-place, walk-fits}
-use Rattle.links.proofs.Entering.{EntryLoop, entering-start, entering-low, field-room, entering-one, entering-all, entering-listed, entering-end}
+use Rattle.record_index.proofs.Entering.{EntryLoop, entering-start, entering-low, field-room, entering-one, entering-all, entering-listed, entering-end}
 use Prim.Native.Nat.{_-_}
 use lib.ListN.{length}
 use native.Mathlib.Omega.{arith}
-use Rattle.links.proofs.enter_records.Statement.{statement}
-use Rattle.links.proofs.enter_records.Tie as tie
+use Rattle.record_index.proofs.enter_records.Statement.{statement}
+use Rattle.record_index.proofs.enter_records.Tie as tie
 
 abbrev Inv-loop : tie.InvT-loop
 Inv-loop s w t at₀ fields₀ keys₀ i₀ p₀ at fields keys i p = EntryLoop (record { width = w; bytes = s }) t at₀ fields₀ keys₀ at fields keys i p

@@ -21,9 +21,9 @@ use Rattle.name_index.proofs.Sorted.{ordered-length}
 use Rattle.recipe.specs.Records.{Recipe, places, field, firstField, name}
 use Rattle.recipe.specs.Reading.{fault₃, repeats, fault₄}
 use Rattle.recipe.proofs.Rows.{first-name}
-use Rattle.links.specs.Entries.{tagAt, keyOf, keyAt, layout, Entered, RecordIndex}
-use Rattle.links.proofs.Places.{first-numbered, place-room, numbered-less, less-numbered}
-use Rattle.links.proofs.Keys.{same-fields, same-keys, same-tags, sharing}
+use Rattle.record_index.specs.Entries.{tagAt, keyOf, keyAt, layout, Entered, RecordIndex}
+use Rattle.record_index.proofs.Places.{first-numbered, place-room, numbered-less, less-numbered}
+use Rattle.record_index.proofs.Keys.{same-fields, same-keys, same-tags, sharing}
 
 module _ (s : Recipe) where
   pub first-length : (p : ℕ) → In p (places s) → length (firstField s p) ≡ s .width

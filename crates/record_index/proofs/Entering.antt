@@ -18,8 +18,8 @@ use Rattle.recipe.proofs.Going.{none-past}
 use Rattle.recipe.proofs.Reading.{readable}
 use Rattle.shadow.specs.Shadow.{Shadowed}
 use Rattle.shadow.proofs.Cells.{step-next, kept-all, Walking, walk-start, walk-place, walk-one}
-use Rattle.links.specs.Entries.{tagOf, tagAt, keyOf, keyAt, layout, Entered}
-use Rattle.links.proofs.Places.{drop-next, drop-over, rest, rest-more, rest-start, next-least, place-room}
+use Rattle.record_index.specs.Entries.{tagOf, tagAt, keyOf, keyAt, layout, Entered}
+use Rattle.record_index.proofs.Places.{drop-next, drop-over, rest, rest-more, rest-start, next-least, place-room}
 
 -- ---- the first fields
 pub record Copying (s : Recipe) (out₀ out : List ℕ) (i : ℕ) : Type 0 where

@@ -1,15 +1,15 @@
--- `links::key_at` meets its contract: from what its parts ensure.
+-- `record_index::key_at` meets its contract: from what its parts ensure.
 -- Assumes nothing.
 use Rattle.recipe.specs.Records.{Recipe}
 use mathlib.Core.Path.{_∙_}
 use native.Mathlib.Omega.{arith}
 use Rattle.recipe.proofs.Spans.{holder-below}
 use Rattle.shadow.proofs.Cells.{row-room}
-use Rattle.links.proofs.Places.{place-room}
-use Rattle.links.proofs.Entering.{key-is}
+use Rattle.record_index.proofs.Places.{place-room}
+use Rattle.record_index.proofs.Entering.{key-is}
 use borrow.Author.Needs.{needs}
-use Rattle.links.proofs.key_at.Statement.{statement}
-use Rattle.links.proofs.key_at.Tie as tie
+use Rattle.record_index.proofs.key_at.Statement.{statement}
+use Rattle.record_index.proofs.key_at.Tie as tie
 
 cell-requires : tie.Need-cell-requires
 cell-requires c κs = omega (arith, row-room (c .before .before .pre .0 .shadowed) _ (c .before .before .pre .1))

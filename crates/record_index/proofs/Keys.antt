@@ -19,7 +19,7 @@ use Rattle.recipe.specs.Definitions.{holder, isDeclared}
 use Rattle.recipe.specs.Reading.{shareNames}
 use Rattle.recipe.proofs.Reading.{known, readable}
 use Rattle.recipe.proofs.Bodies.{by-kind}
-use Rattle.links.specs.Entries.{tagOf, tagAt, keyOf}
+use Rattle.record_index.specs.Entries.{tagOf, tagAt, keyOf}
 
 -- two name fields of one width are the same where their names are
 pub same-fields : (f g : List ℕ) → isName f ≡ true → isName g ≡ true → length f ≡ length g → same (text f) (text g) ≡ same f g

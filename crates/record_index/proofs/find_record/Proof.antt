@@ -1,14 +1,14 @@
--- `links::find_record` meets its contract: from what the index finds.
+-- `record_index::find_record` meets its contract: from what the index finds.
 -- Assumes nothing.
-use Rattle.links.proofs.Repeats.{indexes-at, cell-first}
+use Rattle.record_index.proofs.Repeats.{indexes-at, cell-first}
 use Rattle.recipe.specs.Records.{Recipe}
 use mathlib.Core.Path.{sym, _∙_}
 use native.Mathlib.Omega.{arith}
-use Rattle.links.proofs.Places.{place-room}
-use Rattle.links.proofs.Lookups.{sought-none, sought-low, sought-in, sought-some, sought-other}
+use Rattle.record_index.proofs.Places.{place-room}
+use Rattle.record_index.proofs.Lookups.{sought-none, sought-low, sought-in, sought-some, sought-other}
 use borrow.Author.Needs.{needs}
-use Rattle.links.proofs.find_record.Statement.{statement}
-use Rattle.links.proofs.find_record.Tie as tie
+use Rattle.record_index.proofs.find_record.Statement.{statement}
+use Rattle.record_index.proofs.find_record.Tie as tie
 
 find-requires : tie.Need-find-requires
 find-requires c κs = indexes-at _ (c .before .before .before .before .before .before .before .before .pre .0 .indexed)

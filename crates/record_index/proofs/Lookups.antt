@@ -20,12 +20,12 @@ use Rattle.names.proofs.Scans.{scan-same, scan-below, found-some, found-nothing
 use Rattle.recipe.specs.Records.{Recipe, kind, places, isModel, isElement, isPort, isSubmodel, firstField, name}
 use Rattle.recipe.specs.Definitions.{definitions, holder, recordsOf, elements, submodels, ports, named, definitionNamed, elementNamed, submodelNamed, portNamed}
 use Rattle.recipe.proofs.Rows.{first-name}
-use Rattle.links.specs.declared.Answer.{Answer}
-use Rattle.links.specs.declared.Sought.{Sought}
-use Rattle.links.specs.Entries.{tagOf, tagAt, keyOf, IndexRequires, isOf, recordNamed, SoughtIn, answerOf}
-use Rattle.links.proofs.Places.{first-numbered, first-same}
-use Rattle.links.proofs.Keys.{nothing, same-keys, same-fields}
-use Rattle.links.proofs.Repeats.{first-length, one-entry, entry, numbered, entry-is}
+use Rattle.record_index.specs.declared.Answer.{Answer}
+use Rattle.record_index.specs.declared.Sought.{Sought}
+use Rattle.record_index.specs.Entries.{tagOf, tagAt, keyOf, IndexRequires, isOf, recordNamed, SoughtIn, answerOf}
+use Rattle.record_index.proofs.Places.{first-numbered, first-same}
+use Rattle.record_index.proofs.Keys.{nothing, same-keys, same-fields}
+use Rattle.record_index.proofs.Repeats.{first-length, one-entry, entry, numbered, entry-is}
 
 -- ---- what an answer says of the look-up
 pub answer-some : (o : Option ℕ) {a : Answer} → a ≡ answerOf o → a .missing ≡ false → o ≡ some (a .place)

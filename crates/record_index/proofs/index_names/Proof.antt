@@ -1,10 +1,10 @@
--- `links::index_names` meets its contract: from what entering and sorting ensure.
+-- `record_index::index_names` meets its contract: from what entering and sorting ensure.
 -- Assumes nothing.
 use native.Mathlib.Omega.{arith}
-use Rattle.links.proofs.Repeats.{entered-room, index-built}
+use Rattle.record_index.proofs.Repeats.{entered-room, index-built}
 use borrow.Author.Needs.{needs}
-use Rattle.links.proofs.index_names.Statement.{statement}
-use Rattle.links.proofs.index_names.Tie as tie
+use Rattle.record_index.proofs.index_names.Statement.{statement}
+use Rattle.record_index.proofs.index_names.Tie as tie
 
 build-requires : tie.Need-build-requires
 build-requires c κs =
