@@ -21,9 +21,6 @@ field-at-requires c κs = name-inside (c .before .before .before .before .pre) (
 field-at-requires-2 : tie.Need-field-at-requires-2
 field-at-requires-2 c κs = in-field (c .before .before .before .before .before .pre) (c .before .name-length .ensures)
 
-is-same-requires : tie.Need-is-same-requires
-is-same-requires c κs = search needs
-
 returns : tie.Need-returns
 returns c =
     let at-is-same = c .before in let at-field-at2 = at-is-same .before in let at-field-at = at-field-at2 .before in let at-name-length = at-field-at .before in let at-start = at-name-length .before .before .before .before in
@@ -39,16 +36,10 @@ count-underscores-requires c κs =
     let at-name-length = c .before .before .before .before in let at-start = at-name-length .before .before .before .before in
     (run-room (at-start .pre) (at-name-length .name-length .ensures), narrow (at-start .pre))
 
-fewest-underscores-requires : tie.Need-fewest-underscores-requires
-fewest-underscores-requires c κs = search needs
-
 returns-2 : tie.Need-returns-2
 returns-2 c =
     let at-fewest-underscores = c .before in let at-count-underscores = at-fewest-underscores .before in let at-if1 = at-count-underscores .before in let at-is-same = at-if1 .before in let at-field-at2 = at-is-same .before in let at-field-at = at-field-at2 .before in let at-name-length = at-field-at .before in let at-start = at-name-length .before .before .before .before in
     few-underscores (at-start .pre) (at-name-length .name-length .ensures) (at-is-same .is-same .ensures ∙ same-eq (at-field-at .field-at .ensures) (at-field-at2 .field-at2 .ensures)) (not-false (at-is-same .is-same .result) (at-if1 .if1 .left)) (at-count-underscores .count-underscores .ensures) (at-fewest-underscores .fewest-underscores .ensures) (omega (arith, two-at-least (at-start .pre) (at-fewest-underscores .fewest-underscores .ensures)))
-
-cast-result : tie.Need-cast-result
-cast-result c = search needs
 
 add-result : tie.Need-add-result
 add-result c =
@@ -71,21 +62,6 @@ returns-3 c =
     prefix-there (at-start .pre) (at-name-length .name-length .ensures) (at-is-same .is-same .ensures ∙ same-eq (at-field-at .field-at .ensures) (at-field-at2 .field-at2 .ensures)) (not-false (at-is-same .is-same .result) (at-if1 .if1 .left)) (at-count-underscores .count-underscores .ensures) (at-fewest-underscores .fewest-underscores .ensures) (c .if2 .left)
 
 pub prefix-end-spec : {M : Type 1} → statement M
-prefix-end-spec =
-    tie.close
-    (tie.spec
-    name-length-requires
-    add-field-at
-    field-at-requires
-    field-at-requires-2
-    is-same-requires
-    returns
-    add-count-underscores
-    count-underscores-requires
-    fewest-underscores-requires
-    returns-2
-    cast-result
-    add-result
-    add-result-2
-    add-result-3
-    returns-3)
+prefix-end-spec = tie.close (tie.spec name-length-requires add-field-at field-at-requires field-at-requires-2
+    (λ c κs. search needs) returns add-count-underscores count-underscores-requires (λ c κs. search needs) returns-2
+    (λ c. search needs) add-result add-result-2 add-result-3 returns-3)
