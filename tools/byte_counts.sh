@@ -23,8 +23,9 @@ lines 1 '^fn larger\(a: u8, b: u8\) -> u8$'
 lines 1 '^fn raise_count\(.*, u: u8\) -> u8$'
 lines 1 '^pub fn fewest_underscores\(.*\) -> u8$'
 lines 1 '^fn put_underscores\(.*, u: u8\) -> usize$'
-lines 1 ' as usize'
+# The only conversions: the count's, and that of a row's length.
+lines 2 ' as [ui](8|16|32|64|128|size)'
 lines 1 '^    let n = u as usize;$'
-lines 0 ' as u8'
+lines 1 '^        len\[i\] = r as u16;$'
 echo "$passed passed, $failed failed"
 [ "$failed" -eq 0 ]

@@ -67,10 +67,6 @@ module _ (s : Recipe) (two : 2 ≤ s .width) (narrow : s .width ≤ 64) (h₃ : 
   unfolding tries namesAround
   all = ap (λ (l : List ℕ). 2 ∷ l) (raises-append n outer inner 2)
 
-  last-is : lastOr 0 (triesFor s m) ≡ lastTry n (namesAround s m) 2
-  unfolding tries
-  last-is = refl
-
   rises : Rising 2 (triesFor s m)
   unfolding tries
   rises = (omega arith, raises-rise n (namesAround s m) 2 (omega arith))
@@ -83,12 +79,16 @@ module _ (s : Recipe) (two : 2 ≤ s .width) (narrow : s .width ≤ 64) (h₃ : 
   at-least : (k : ℕ) → In k (triesFor s m) → 2 ≤ k
   at-least k j = rising-in 2 (triesFor s m) k rises j
 
+  none-takes : isTaken (namesAround s m) n (lastTry n (namesAround s m) 2) ≡ false
+  none-takes = last-free n (namesAround s m) 2 (omega arith)
+
+  one-takes : (k : ℕ) → 2 ≤ k → k < lastTry n (namesAround s m) 2 → isTaken (namesAround s m) n k ≡ true
+  one-takes k = less-taken n (namesAround s m) 2 k (omega arith)
+
   last-fewest : lastTry n (namesAround s m) 2 ≡ fewest (s .width) (namesAround s m) n
   last-fewest =
       count-is (lastTry n (namesAround s m) 2) (prefix-count s two h₃ (holder s m) m i)
-      (last-least n (namesAround s m) 2 (omega arith))
-      (last-free n (namesAround s m) 2 (omega arith))
-      (λ k a b. less-taken n (namesAround s m) 2 k (omega arith) a b)
+      (last-least n (namesAround s m) 2 (omega arith)) none-takes one-takes
 
   in-outer : (k : ℕ) → In k (2 ∷ raises n outer 2) → In k (triesFor s m)
   in-outer k j = rw all (append-left (2 ∷ raises n outer 2) (raises n inner (handedOn s m)) k j)
@@ -110,9 +110,9 @@ module _ (s : Recipe) (two : 2 ≤ s .width) (narrow : s .width ≤ 64) (h₃ : 
     byte = λ k j. omega (arith, at-most k j);
     twelve = λ e k j. (at-least k j, omega (arith, at-most k j));
     rise = rises;
-    last = last-is ∙ last-fewest;
-    free = last-free n (namesAround s m) 2 (omega arith);
-    taken = λ k a b. less-taken n (namesAround s m) 2 k (omega arith) a b;
+    last = last-fewest;
+    free = none-takes;
+    taken = one-takes;
     outer-turn = λ {p} {u} g. in-outer u (g .tried u (inl refl));
     inner-turn = λ {p} {u} g. in-inner u (g .tried u (inl refl));
     answer = λ {r} e. e ∙ (both-looks ∙ last-fewest);

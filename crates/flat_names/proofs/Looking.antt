@@ -64,6 +64,7 @@ module _ (s : Recipe) where
   unfolding name
   nonzero-name m = text-nonzero (firstField s m)
 
+  -- the first of them
   first-byte : (p n : ℕ) → 1 ≤ n → getD (take (p + 1 + n - (p + 1)) (drop (p + 1) (s .bytes))) 0 0 ≡ getD (s .bytes) (p + 1) 0
   first-byte p n l =
       let z : p + 1 + 0 ≡ p + 1 = omega arith in

@@ -83,7 +83,7 @@ most-behind (a ∷ n) k (b ∷ x) l h =
     (λ u. absurd (let g : k ≤ 0 = rw (behind-off a n b x u) at h in omega arith))
 
 -- a run and the name before it are bytes of the name that has them
-pub behind-bytes : (n x : List ℕ) → 1 ≤ runBehind n x → length n + runBehind n x ≤ length x
+behind-bytes : (n x : List ℕ) → 1 ≤ runBehind n x → length n + runBehind n x ≤ length x
 behind-bytes n x h =
     omega (
       arith,

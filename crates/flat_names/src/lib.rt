@@ -172,7 +172,7 @@ pub fn fewest_underscores(s: &[u8], w: usize, t: &[u16], m: usize) -> u8
     raise_count(s, w, t, inner, m, n, u)
 }
 
-// Writes u underscores from `at` on, and answers where they end: here alone the count is no byte.
+// Writes u underscores from `at` on, and answers where they end. In this crate only here the count is converted.
 fn put_underscores(out: &mut [u8], at: usize, u: u8) -> usize
     requires { ⌜ at + u ≤ length (now out) ⌝ }
     ensures { λ r. ⌜ (r ≡ at + u) × (now (out .exit) ≡ sets (now (out .entry)) at (replicate u underscore)) ⌝ }

@@ -135,7 +135,7 @@ keep-rising t p (q ∷ qs) r =
     (λ e. rw (e, keep) (r .0, keep-rising t (suc q) qs (r .1)))
     (λ e. rw (e, keep) (rising-from p (suc q) (keep t qs) (omega (arith, r .0)) (keep-rising t (suc q) qs (r .1))))
 
--- the last of rising numbers is none of the lower
+-- none of rising numbers is above the last, nor is the number that they rise from
 pub last-from : (d : ℕ) (qs : List ℕ) → Rising (suc d) qs → d ≤ lastOr d qs
 last-from d [] r = omega arith
 last-from d (q ∷ qs) r = omega (arith, r .0, last-from q qs (r .1))

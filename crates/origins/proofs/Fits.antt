@@ -62,14 +62,13 @@ module _ {s : Recipe} {t : List ℕ} {m : ℕ} {f : List ℕ} {l : ℕ} (R : Pre
     pub name-inside : m + 1 + n ≤ length (s .bytes)
     name-inside = omega (arith, submodel-room, n-is, name-short s m)
 
-    pub in-field : l + n ≤ length f
-    unfolding flatWidth
-    in-field = omega (arith, name-room, R .long)
-
-    -- the field goes on for a name's width
+    -- behind it the field goes on for a name's width
     pub run-room : l + n + s .width ≤ length f
     unfolding flatWidth
     run-room = omega (arith, name-room, R .long)
+
+    pub in-field : l + n ≤ length f
+    in-field = omega (arith, run-room)
 
     -- its name stands there
     module _ {b : Bool} (b-is : b ≡ same (fieldAt n (s .bytes) (m + 1)) (fieldAt n f l)) where

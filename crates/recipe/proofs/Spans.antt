@@ -62,8 +62,8 @@ abbrev pub isOf : Recipe → ℕ → ℕ → Bool
 isOf s d q = not (isModel s q) && eqb (holder s q) d
 
 -- the records of d among the places that pass the test
-abbrev pub amongst : Recipe → (ℕ → Bool) → ℕ → List ℕ → List ℕ
-amongst s t d ps = keep t (keep (isOf s d) ps)
+abbrev pub passingOf : Recipe → (ℕ → Bool) → ℕ → List ℕ → List ℕ
+passingOf s t d ps = keep t (keep (isOf s d) ps)
 
 pub record Rest (s : Recipe) (t : ℕ → Bool) (d p : ℕ) (rs : List ℕ) : Type 0 where
   pub tries : ℕ
@@ -71,7 +71,7 @@ pub record Rest (s : Recipe) (t : ℕ → Bool) (d p : ℕ) (rs : List ℕ) : Ty
   pub stops : stop s ≡ stopFrom tries s p
   pub inside : (x : ℕ) → In x (placesFrom tries s p) → In x (places s)
   pub after : d < p
-  pub list : rs ≡ amongst s t d (placesFrom tries s p)
+  pub list : rs ≡ passingOf s t d (placesFrom tries s p)
 
 keep-none : {A : Type 0} (t : A → Bool) (xs : List A) → ((x : A) → In x xs → t x ≡ false) → keep t xs ≡ []
 keep-none t [] h = refl
@@ -80,7 +80,7 @@ keep-none t (x ∷ xs) h = rw (h x (inl refl), keep) (keep-none t xs (λ y i. h 
 module _ (s : Recipe) (t : ℕ → Bool) (d : ℕ) (whole : stop s ≡ length (s .bytes)) where
   -- no record before d, nor d, is one of d
   before-start : (n p₀ : ℕ) → In d (placesFrom n s p₀) → isModel s d ≡ true → length (s .bytes) ≤ p₀ + n → stop s ≡ stopFrom n s p₀
-      → ((x : ℕ) → In x (placesFrom n s p₀) → In x (places s)) → Rest s t d (next s d) (amongst s t d (placesFrom n s p₀))
+      → ((x : ℕ) → In x (placesFrom n s p₀) → In x (places s)) → Rest s t d (next s d) (passingOf s t d (placesFrom n s p₀))
   unfolding placesFrom stopFrom
   before-start zero p₀ i m e st ins = absurd i
   before-start (suc n) p₀ i m e st ins =
@@ -94,7 +94,7 @@ module _ (s : Recipe) (t : ℕ → Bool) (d : ℕ) (whole : stop s ≡ length (s
         stops = rw (b, stopFrom, ← q) at st;
         inside = λ x j. ins x (rw (b, placesFrom) (inr (rw q at j)));
         after = next-more s d;
-        list = ap (λ (z : ℕ). amongst s t d (placesFrom n s (next s z))) (sym q);
+        list = ap (λ (z : ℕ). passingOf s t d (placesFrom n s (next s z))) (sym q);
       }))
       (λ (j : In d (placesFrom n s (next s p₀))).
       let l = places-least s n (next s p₀) d j in
@@ -121,10 +121,10 @@ module _ (s : Recipe) (t : ℕ → Bool) (d : ℕ) (whole : stop s ≡ length (s
     pub place : In p (places s)
     pub inside : (x : ℕ) → In x (placesFrom tries s (next s p)) → In x (places s)
     pub after : d < p
-    pub list : rs ≡ amongst s t d (p ∷ placesFrom tries s (next s p))
+    pub list : rs ≡ passingOf s t d (p ∷ placesFrom tries s (next s p))
 
   met-at : (p : ℕ) (rs : List ℕ) (n : ℕ) → length (s .bytes) ≤ p + n → stop s ≡ stopFrom n s p → ((x : ℕ) → In x (placesFrom n s p) → In x (places s))
-      → d < p → rs ≡ amongst s t d (placesFrom n s p) → p < length (s .bytes) → Met p rs
+      → d < p → rs ≡ passingOf s t d (placesFrom n s p) → p < length (s .bytes) → Met p rs
   unfolding stopFrom placesFrom
   met-at p rs zero e st i a r l = absurd (omega arith)
   met-at p rs (suc n) e st i a r l =
@@ -148,7 +148,7 @@ module _ (s : Recipe) (t : ℕ → Bool) (d : ℕ) (whole : stop s ≡ length (s
   met-fits {p} {rs} m = readable-fits s p (m .readable)
 
   pub rest-end : {p : ℕ} {rs : List ℕ} → Rest s t d p rs → length (s .bytes) ≤ p → rs ≡ []
-  rest-end {p} {rs} r l = r .list ∙ ap (amongst s t d) (none-past s (r .tries) p l)
+  rest-end {p} {rs} r l = r .list ∙ ap (passingOf s t d) (none-past s (r .tries) p l)
 
   -- at a record of another definition, none is left
   pub rest-stop : In d (definitions s) → {p : ℕ} {rs : List ℕ} → Met p rs → (holder s p ≡ d → ⊥) → rs ≡ []
@@ -175,7 +175,7 @@ module _ (s : Recipe) (t : ℕ → Bool) (d : ℕ) (whole : stop s ≡ length (s
   rest-more {p} {rs} m h k =
       let a = m .after in
       let plain = met-not-model m h in (
-        amongst s t d (placesFrom (m .tries) s (next s p)),
+        passingOf s t d (placesFrom (m .tries) s (next s p)),
         (
           m .list ∙ rw (plain, eq-eqb (holder s p) d h, keep, k, keep),
           record { tries = m .tries; enough = m .enough; stops = m .stops; inside = m .inside; after = omega (arith, next-more s p); list = refl },
