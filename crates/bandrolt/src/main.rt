@@ -1,5 +1,7 @@
 // The printing program: it reads a recipe from standard input, flattens it, and writes the flat table or the refusal to standard output.
 // No contract of the kit can speak of what is read or written, so all that is written is first put together as one text, of which every byte is promised.
+#![tactic(auto)]
+
 ghost use Rattle.std.specs.Prelude.{◌≡◌, ◌+◌, ◌≤◌, ◌++◌, length, take};
 ghost use Rattle.io.specs.Counts.{IsPrefixLen};
 ghost use Rattle.names.specs.Names.{field_at};
@@ -13,7 +15,7 @@ use composer::Answer;
 use libc::{STDIN_FILENO, STDOUT_FILENO};
 
 // What one read answers: how many bytes more are there, the end of the input, or that it failed.
-#[derive(Drop)]
+#[derive(Clone, Copy)]
 pub enum Got {
     More(usize),
     End,
@@ -21,7 +23,7 @@ pub enum Got {
 }
 
 // What reading answers: how many bytes it put at the start of the room, or that a read failed.
-#[derive(Drop)]
+#[derive(Clone, Copy)]
 pub enum Input {
     Read(usize),
     Failed,

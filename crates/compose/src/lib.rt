@@ -1,5 +1,7 @@
 // Composing: rows 1 to 12, 19 and 20 behind one call, and where none applies the rooms that a call's ending needs: the shadow, the instances, the elements of the tree.
 // For the floors above: compose, and the sizes of its rooms. There is no public call.
+#![tactic(auto)]
+
 ghost use Rattle.std.specs.Prelude.{◌≡◌, ◌++◌, ◌*◌, ◌<◌, ◌≤◌, length};
 ghost use Rattle.names.specs.Judging.{refusal_at, judged, handed};
 ghost use Rattle.recipe.specs.Records.{recipe_at};
@@ -25,7 +27,7 @@ pub const INSTANCE_CELLS: usize = 384;
 pub const ELEMENT_CELLS: usize = 5120;
 
 // Number and place of the first row that applies, or 0 and 0; the number of instances and of elements of the tree.
-#[derive(Drop)]
+#[derive(Clone, Copy)]
 pub struct Composition {
     pub number: u64,
     pub place: u64,

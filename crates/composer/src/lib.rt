@@ -1,5 +1,7 @@
 // Flattening: a recipe's answer, and its flat table, written from the rooms that composing fills.
 // Public calls, which require nothing: flatten; bandrolt_flatten, the same exported to C; flatten_and_check. For the floors above: field_width, record_width, NAME_WIDTH, count_survivors, Site, site_at, put_field, write_table.
+#![tactic(auto)]
+
 ghost use Rattle.std.specs.Prelude.{◌≡◌, ◌++◌, ◌+◌, ◌*◌, ◌<◌, ◌≤◌, length, get_or, drop};
 ghost use Rattle.std.proofs.lemmas.List.Edits.{sets};
 ghost use Rattle.flat_table.specs.Table.{flat_width, flat_length};
@@ -20,7 +22,7 @@ pub const NAME_WIDTH: usize = 12;
 
 // Flattening's answer: 0, or the number and place of the refusal; the records and bytes written.
 #[repr(C)]
-#[derive(Drop)]
+#[derive(Clone, Copy)]
 pub struct Answer {
     pub number: u64,
     pub place: u64,
@@ -29,7 +31,7 @@ pub struct Answer {
 }
 
 // An element of the tree by the number of its instance and its record; record 0 is none.
-#[derive(Drop)]
+#[derive(Clone, Copy)]
 pub struct Site {
     pub inst: usize,
     pub record: usize,

@@ -1,6 +1,8 @@
 // The elements of the tree as rows of five: each one's record and instance, whether it is gone, the next of its chain; the refusal 11.
 // For the floors above: list_elements, mark_gone, first_lost, fill_steps, and the columns. They take the name width w, the shadow t, the rows of the instances inst, and the rows of the elements el;
 // `specs/Columns.antt` has what each column means.
+#![tactic(auto)]
+
 ghost use Rattle.std.specs.Prelude.{◌≡◌, true, ◌||◌, ◌*◌, ◌+◌, ◌≤◌, ◌<◌, length, set};
 ghost use Rattle.std.proofs.Math.Option.{none};
 ghost use Rattle.names.specs.Lists.{In};

@@ -1,5 +1,7 @@
 // The factors of submodels, and where the chains from them end; the refusal 20.
 // For the floors above: factor_end, first_misfactored. They take the name width w, the shadow t, the rows of the instances inst, and the rows of the elements el.
+#![tactic(auto)]
+
 ghost use Rattle.std.specs.Prelude.{◌≡◌, true, ◌≤◌};
 ghost use Rattle.names.specs.Lists.{In};
 ghost use Rattle.names.specs.Scans.{found_of};

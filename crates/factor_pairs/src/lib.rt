@@ -1,5 +1,7 @@
 // Row 19: the first kind 8 that names no submodel of its definition, or one that has its factors already; and where there is none, each submodel's kind 8.
 // For the floors above: pair_factors. It reads the links in the shadow, and fills the cell FACTORS of each submodel.
+#![tactic(auto)]
+
 ghost use Rattle.std.specs.Prelude.{◌≡◌, length};
 ghost use Rattle.names.specs.Scans.{found_of};
 ghost use Rattle.names.specs.declared.Found.{Found};

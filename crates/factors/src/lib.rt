@@ -1,5 +1,7 @@
 // Flattening with factors, Paper 2 of 02: the flat table, and beside it the companion of the elements of class 4 and 6 with the factors of the submodels around them.
 // Public call, which requires nothing: bandrolt_flatten_with_factors, exported to C.
+#![tactic(auto)]
+
 ghost use Rattle.std.specs.Prelude.{◌≡◌, [], ◌++◌, ◌∷◌, ◌+◌, ◌*◌, ◌<◌, ◌≤◌, length, take, drop};
 ghost use Rattle.std.proofs.lemmas.List.Edits.{sets};
 ghost use Rattle.flat_table.specs.Table.{flat_length};
@@ -31,7 +33,7 @@ const NO_INSTANCE: usize = 64;
 
 // The answer of flattening with factors: 0, or the number and place of the refusal; the records and bytes of the flat table, and the entries of the companion.
 #[repr(C)]
-#[derive(Drop)]
+#[derive(Clone, Copy)]
 pub struct FactorsAnswer {
     pub number: u64,
     pub place: u64,

@@ -1,6 +1,8 @@
 // Flat names: the prefix of each instance, and the flat name of an element, written into a table.
 // For the floors above: put_zeros, put_name, fill_prefixes, and the sizes of the table of prefixes; name_length, count_underscores, fewest_underscores, for who looks for a prefix and writes none.
 // They take the name width w, 12 to 64, the shadow, and the rows of the instances. A count of underscores is a byte wherever it is kept or passed on.
+#![tactic(auto)]
+
 ghost use Rattle.std.specs.Prelude.{◌≡◌, ◌+◌, ◌*◌, ◌≤◌, ◌<◌, max, [], ◌++◌, length, get_or, take, drop, replicate};
 ghost use Rattle.std.proofs.lemmas.List.Edits.{sets};
 ghost use Rattle.names.specs.Lists.{In, padded};

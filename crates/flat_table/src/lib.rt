@@ -1,6 +1,8 @@
 // The flat table and its check: 01's refusals 14 to 17. It stands beneath the composer and knows nothing of recipes.
 // Public calls, which require nothing: bandrolt_check_table, exported to C; is_class, parent_may_be_blank, parent_allowed, reference_may_be_blank
 // and reference_allowed, for the floors above.
+#![tactic(auto)]
+
 ghost use Rattle.std.specs.Prelude.{◌≡◌, ◌*◌};
 ghost use Rattle.std.proofs.Math.Option.{none, some};
 ghost use Rattle.names.specs.Lists.{same};
@@ -15,7 +17,7 @@ use names::Found;
 
 // What the check answers: 01's number, place and count of records.
 #[repr(C)]
-#[derive(Drop)]
+#[derive(Clone, Copy)]
 pub struct TableAnswer {
     pub number: u64,
     pub place: u64,

@@ -1,5 +1,7 @@
 // Row 6: the lowest definition that reaches itself, and the heights of definitions where there is none.
 // For the floors above: find_heights. It reads the links in the shadow, and fills the cell HEIGHT of each model.
+#![tactic(auto)]
+
 ghost use Rattle.std.specs.Prelude.{◌≡◌, [], ◌∷◌, ℕ, ◌<◌, length};
 ghost use Rattle.names.specs.Lists.{In};
 ghost use Rattle.names.specs.Scans.{found_of};

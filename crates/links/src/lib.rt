@@ -1,5 +1,7 @@
 // What the records of a recipe name: rows 4 and 5, and in the shadow the record that each field names.
 // For the floors above: resolve_names. The four tables `at`, `fields`, `keys` and `index` are the index of the records, `at` cut to their number.
+#![tactic(auto)]
+
 ghost use Rattle.std.specs.Prelude.{◌≡◌, true, cond, ◌+◌, ◌≤◌, ◌<◌, length, set};
 ghost use Rattle.std.proofs.Math.Option.{none, get_or};
 ghost use Rattle.names.specs.Lists.{In};
@@ -26,14 +28,14 @@ const MOST_RECORDS: usize = 1536;
 const MOST_BYTES: usize = 16384;
 
 // A record and the definition that holds it.
-#[derive(Drop)]
+#[derive(Clone, Copy)]
 struct Held {
     place: usize,
     definition: usize,
 }
 
 // Whether row 5 refuses a record, and what it names, by the cells 3 to 5.
-#[derive(Drop)]
+#[derive(Clone, Copy)]
 struct Links {
     undeclared: bool,
     upper: u16,

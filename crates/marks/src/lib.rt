@@ -1,5 +1,7 @@
 // Marks in the tree: which records conflict; the refusal 9.
 // For the floors above: first_conflict, owner_order, and the cells that it fills. They take the name width w, the shadow t and the rows of the instances inst.
+#![tactic(auto)]
+
 ghost use Rattle.std.specs.Prelude.{◌≡◌, true, ◌*◌, ◌+◌, ◌≤◌, ◌<◌, length, get_or, replicate};
 ghost use Rattle.names.specs.Lists.{In};
 ghost use Rattle.names.specs.Scans.{found_of};

@@ -1,5 +1,7 @@
 // An index of names: positions of equally long records in order of their keys, then names. It is sorted by merging, so that it
 // takes n log n comparisons on all input. For the floors above: hash, hash_names, build, find, first_repeat.
+#![tactic(auto)]
+
 ghost use Rattle.std.specs.Prelude.{◌≡◌, ◌∷◌, ◌++◌, ◌+◌, ◌-◌, ◌/◌, ◌≤◌, ◌<◌, length, take, drop, get_or};
 ghost use Rattle.names.specs.Lists.{same};
 ghost use Rattle.names.specs.Order.{before};
@@ -11,7 +13,7 @@ ghost use Rattle.name_index.specs.Steps.{merged, next_right, InsertionPoint};
 use names::Found;
 
 // Where the name stands in a record, how long a record is, and how long a name is.
-#[derive(Drop)]
+#[derive(Clone, Copy)]
 pub struct Layout {
     pub first: usize,
     pub stride: usize,

@@ -13,8 +13,7 @@ use Rattle.names.specs.Lists.{every, keep_while, same, padded}
 use Rattle.names.specs.Names.{is_letter, is_digit, underscore, is_first, is_other, non_zero, are_name_characters, text, is_blank, is_name, is_name_or_blank, field_of, field_at}
 use Rattle.names.specs.declared.Field.{Field}
 use Rattle.names.specs.declared.Field.TheVariants.{Name, Blank, Neither}
-use types.Run.{OneOf, miss}
-use denote.Enum.Declared.{tag_of}
+use mathlib.Core.Logic.{◌⊎◌, inl, inr}
 use Rattle.names.specs.contracts.Field.{the_type}
 use Rattle.names.specs.Runs.{Run}
 use Rattle.names.proofs.Tests.{by_cases, not-both, and_left, and_right, both}
@@ -202,20 +201,21 @@ is_name_lem f {n} e =
     (λ h. by_cases (is_blank f) (λ b. let k : Name n ≡ Blank = rw (h, b) at e in let z : ◌≡◌ {A = ℕ} 0 1 = cc in absurd (omega arith))
     (λ b. let k : Name n ≡ Neither = rw (h, b) at e in let z : ◌≡◌ {A = ℕ} 0 1 = cc in absurd (omega arith)))
 
--- the reader answered one of the two other cases
-pub is-no-name : (f : List ℕ) {r : Field} → r ≡ field_of f → OneOf (1 ∷ 2 ∷ []) (tag_of the_type r) → is_name f ≡ false
+-- the reader's answer is no name
+pub is-no-name : (f : List ℕ) {r : Field} → r ≡ field_of f → ((n : ℕ) → r ≡ Name n → ⊥) → is_name f ≡ false
 unfolding field_of
-is-no-name f {r} e k =
-    by_cases (is_name f)
-    (λ h. let q : r ≡ Name (length (text f)) = e ∙ rw h in absurd (miss (1 ∷ 2 ∷ []) 0 tt (subst (λ (x : Field). OneOf (1 ∷ 2 ∷ []) (tag_of the_type x)) q k)))
-    (λ h. h)
+is-no-name f {r} e k = by_cases (is_name f) (λ h. absurd (k (length (text f)) (e ∙ rw h))) (λ h. h)
 
-pub is-optional : (f : List ℕ) {r : Field} → r ≡ field_of f → OneOf (0 ∷ 1 ∷ []) (tag_of the_type r) → is_name_or_blank f ≡ true
+-- a name or a blank is not neither
+pub not-neither : {r : Field} → ((n : ℕ) × (r ≡ Name n)) ⊎ (r ≡ Blank) → r ≡ Neither → ⊥
+not-neither {r} (inl e) h = let k : r ≡ Name e.0 = e.1 in cc
+not-neither {r} (inr e) h = cc
+
+pub is-optional : (f : List ℕ) {r : Field} → r ≡ field_of f → (r ≡ Neither → ⊥) → is_name_or_blank f ≡ true
 unfolding field_of is_name_or_blank
 is-optional f {r} e k =
     by_cases (is_name f) (λ h. rw h)
-    (λ h. by_cases (is_blank f) (λ b. rw (h, b))
-    (λ b. let q : r ≡ Neither = e ∙ rw (h, b) in absurd (miss (0 ∷ 1 ∷ []) 2 tt (subst (λ (x : Field). OneOf (0 ∷ 1 ∷ []) (tag_of the_type x)) q k))))
+    (λ h. by_cases (is_blank f) (λ b. rw (h, b)) (λ b. absurd (k (e ∙ rw (h, b)))))
 
 pub is-not-optional : (f : List ℕ) → Neither ≡ field_of f → is_name_or_blank f ≡ false
 unfolding field_of is_name_or_blank

@@ -1,5 +1,7 @@
 // Name fields of any width: a name and zeros behind it, or zeros alone. They are read, compared, copied and cut here, and nowhere else.
 // Public calls: read_field, is_name, is_optional, is_blank, is_same, comes_before, unpadded, refuse. None of them requires anything. For the floors above: field_at, put_bytes.
+#![tactic(auto)]
+
 ghost use Rattle.std.specs.Prelude.{◌≡◌, ◌+◌, ◌≤◌, length, take, drop};
 ghost use Rattle.std.proofs.lemmas.List.Edits.{sets};
 ghost use Rattle.names.specs.Lists.{same, keep_while};
@@ -9,21 +11,21 @@ ghost use Rattle.names.specs.Judging.{refusal_at};
 ghost use Rattle.names.specs.Runs.{other_at, same_at, eight, Passed, Run};
 
 // What a search answers: the position, or nothing.
-#[derive(Drop)]
+#[derive(Clone, Copy)]
 pub enum Found {
     At(usize),
     Nothing,
 }
 
 // What judging answers: the number and place of the first row that applies, or 0 and 0.
-#[derive(Drop)]
+#[derive(Clone, Copy)]
 pub struct Refusal {
     pub number: u64,
     pub place: u64,
 }
 
 // What a field reads as: a name of that length, a blank, or neither.
-#[derive(Drop)]
+#[derive(Clone, Copy)]
 pub enum Field {
     Name(usize),
     Blank,

@@ -1,5 +1,7 @@
 // From a flat name back to the recipe: the submodel records from main downward, and the element record. No table is written.
 // Public call, which requires nothing: bandrolt_walk_back, exported to C.
+#![tactic(auto)]
+
 ghost use Rattle.std.specs.Prelude.{◌≡◌, [], ◌<◌, length, get_or};
 ghost use Rattle.std.proofs.Math.Option.{map};
 ghost use Rattle.names.specs.Lists.{padded};
@@ -24,7 +26,7 @@ const INSTANCES: usize = 64;
 // What walking back answers: 0, or the number and place of the refusal; how many submodels the element lies in, the offsets of their records
 // from main downward with zeros behind them, and the offset of the element's record.
 #[repr(C)]
-#[derive(Drop)]
+#[derive(Clone, Copy)]
 pub struct Origin {
     pub number: u64,
     pub place: u64,

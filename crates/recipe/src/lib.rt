@@ -1,6 +1,8 @@
 // Recipes: their records, and the refusals 1 to 3.
 // For the floors above, which name the width w of names: length_fault, reading_stop and first_unformed (rows 1 to 3), is_readable and read_record;
 // what is asked of a kind byte k: record_length, length_by_kind, is_port, is_deletion, is_replaced_by, is_owned, is_mark, is_pointer, submodel_offset; wide, of a number in a table.
+#![tactic(auto)]
+
 ghost use Rattle.std.specs.Prelude.{◌≡◌, true, ℕ, ◌+◌, ◌*◌, ◌<◌, ◌≤◌, length};
 ghost use Rattle.names.specs.Names.{field_of};
 ghost use Rattle.names.specs.Scans.{found_of};
@@ -11,21 +13,21 @@ ghost use Rattle.recipe.specs.Fields.{TargetAt, RecordAt, MarkAt, target_reading
 use names::{Field, Found};
 
 // How a target is named: by element name or by port name, with the offset of that name in the recipe.
-#[derive(Drop)]
+#[derive(Clone, Copy)]
 pub enum Way {
     ByElement(usize),
     ByPort(usize),
 }
 
 // What a way byte and the name behind it read as.
-#[derive(Drop)]
+#[derive(Clone, Copy)]
 pub enum Target {
     Named(Way),
     Unnamed,
 }
 
 // The fields of an element: their offsets, and the class.
-#[derive(Drop)]
+#[derive(Clone, Copy)]
 pub struct ElementFields {
     pub name: usize,
     pub class: u8,
@@ -34,7 +36,7 @@ pub struct ElementFields {
 }
 
 // The fields of a port.
-#[derive(Drop)]
+#[derive(Clone, Copy)]
 pub struct PortFields {
     pub name: usize,
     pub submodel: usize,
@@ -42,14 +44,14 @@ pub struct PortFields {
 }
 
 // The fields of a submodel.
-#[derive(Drop)]
+#[derive(Clone, Copy)]
 pub struct SubmodelFields {
     pub name: usize,
     pub model: usize,
 }
 
 // The fields of a mark. A deletion's owner is its submodel.
-#[derive(Drop)]
+#[derive(Clone, Copy)]
 pub struct Mark {
     pub owner: usize,
     pub submodel: usize,
@@ -57,14 +59,14 @@ pub struct Mark {
 }
 
 // What the fields of a mark read as.
-#[derive(Drop)]
+#[derive(Clone, Copy)]
 pub enum Marked {
     Marks(Mark),
     Unmarked,
 }
 
 // The fields of a kind 8.
-#[derive(Drop)]
+#[derive(Clone, Copy)]
 pub struct FactorsFields {
     pub submodel: usize,
     pub time: usize,
@@ -72,7 +74,7 @@ pub struct FactorsFields {
 }
 
 // A record, by its kind.
-#[derive(Drop)]
+#[derive(Clone, Copy)]
 pub enum Record {
     Model(usize),
     Element(ElementFields),
@@ -85,7 +87,7 @@ pub enum Record {
 }
 
 // What a record reads as: itself, or it is refused by row 3.
-#[derive(Drop)]
+#[derive(Clone, Copy)]
 pub enum Read {
     As(Record),
     Refused,

@@ -1,5 +1,7 @@
 // The index of a recipe's records by their names, and row 4.
 // For the floors above: index_names, first_repeated, find_record. The four tables are the index; where `at` is lent for a look-up it is cut to the number of records.
+#![tactic(auto)]
+
 ghost use Rattle.std.specs.Prelude.{◌≡◌, ◌+◌, ◌*◌, ◌≤◌, ◌<◌, length, take};
 ghost use Rattle.std.proofs.Math.Option.{none};
 ghost use Rattle.names.specs.Lists.{In};
@@ -17,7 +19,7 @@ use names::Found;
 const NAME_NUMBERS: u32 = 32768;
 
 // What is looked up: a record of kind 1 to 4, of a definition unless it is a model, by the name at an offset of the recipe.
-#[derive(Drop)]
+#[derive(Clone, Copy)]
 pub struct Sought {
     pub kind: u8,
     pub definition: usize,
@@ -25,7 +27,7 @@ pub struct Sought {
 }
 
 // The record that a look-up gives, 0 where it is missing.
-#[derive(Drop)]
+#[derive(Clone, Copy)]
 pub struct Answer {
     pub missing: bool,
     pub place: u16,

@@ -1,5 +1,7 @@
 // The references of survivors, and where the chains from them end; the refusal 12.
 // For the floors above: first_misreferred, chain_end, and the column of the ends. They take the name width w, the shadow t, and the rows of the elements el.
+#![tactic(auto)]
+
 ghost use Rattle.std.specs.Prelude.{◌≡◌, true, ◌≤◌, length};
 ghost use Rattle.names.specs.Lists.{In};
 ghost use Rattle.names.specs.Names.{is_blank};

@@ -1,5 +1,7 @@
 // The shadow of a recipe: one lent table for all that is known of its records. Cell k of the record at p is t[p + k]; `specs/Columns.antt` has what each cell means.
 // For the floors above: the cells' numbers, cell and set_cell; clear_cells; number_records, which fills the cells 0 to 2; next_submodel.
+#![tactic(auto)]
+
 ghost use Rattle.std.specs.Prelude.{◌≡◌, [], ◌∷◌, ◌+◌, ◌<◌, length, get_or, set};
 ghost use Rattle.names.specs.Lists.{In};
 ghost use Rattle.recipe.specs.Definitions.{holder};

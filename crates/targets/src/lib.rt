@@ -1,5 +1,7 @@
 // The targets of ports and marks, found through ports; the refusals 8 and 10.
 // For the floors above: first_untargeted, first_misclassed. They take the name width w and the shadow t.
+#![tactic(auto)]
+
 ghost use Rattle.std.specs.Prelude.{◌≡◌, true, [], ◌∷◌, ◌+◌, ◌≤◌, ◌<◌, length, get_or, set};
 ghost use Rattle.names.specs.Scans.{found_of};
 ghost use Rattle.recipe.specs.Records.{recipe_at};

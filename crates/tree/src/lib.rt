@@ -1,5 +1,7 @@
 // The tree of a recipe: its instances, and the refusal 7.
 // For the floors above: plant, and the columns of an instance's row. They take the name width w, the shadow t and, for the rows of the instances, inst.
+#![tactic(auto)]
+
 ghost use Rattle.std.specs.Prelude.{◌≡◌, true, false, not, [], ◌∷◌, ◌*◌, ◌+◌, ◌≤◌, ◌<◌, length, get_or};
 ghost use Rattle.std.proofs.lemmas.List.Edits.{sets};
 ghost use Rattle.recipe.specs.Records.{recipe_at};
@@ -32,7 +34,7 @@ const MOST_INSTANCES: usize = 64;
 const MOST_ELEMENTS: usize = 1024;
 
 // What a walk answers: whether the tree fits, and how many instances and elements there are with those before.
-#[derive(Drop)]
+#[derive(Clone, Copy)]
 pub struct Walked {
     pub ok: bool,
     pub insts: usize,
@@ -116,7 +118,7 @@ fn thread_instances(s: &[u8], w: usize, t: &mut [u16], inst: &mut [u16], n: usiz
 }
 
 // What planting answers: whether the tree is too large, and how many instances and elements it has.
-#[derive(Drop)]
+#[derive(Clone, Copy)]
 pub struct Planting {
     pub large: bool,
     pub insts: usize,
