@@ -30,8 +30,8 @@ pub loop-p-preserved : goal.loop-p-preserved
 loop-p-preserved c =
     clear-one c.requires.0 c.requires.1 c.loop-p.invariant c.loop-p-test.true c.set_cell.ensures c.record_length-p.ensures
 
-pub UNKNOWN-same-length : goal.UNKNOWN-same-length
-UNKNOWN-same-length c = c.loop-p.invariant.walking.kept.long
+pub shape_of-t : goal.shape_of-t
+shape_of-t c = c.loop-p.invariant.walking.kept.long
 
 pub returns : goal.returns
 returns c = clear-end c.requires.0 c.requires.1 c.loop-p.invariant c.loop-p-test.false

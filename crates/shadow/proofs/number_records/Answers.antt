@@ -81,8 +81,8 @@ pub loop-p-preserved : goal.loop-p-preserved
 loop-p-preserved c =
     rw c.set_cell-else-k-eq2.ensures (number-other c.requires c.loop-p.invariant c.loop-p-test.true c.record_length-l.ensures c.if-k-eq1.false c.if-k-eq2.false)
 
-pub UNKNOWN-same-length : goal.UNKNOWN-same-length
-UNKNOWN-same-length c = c.loop-p.invariant.walk.kept.long
+pub shape_of-t : goal.shape_of-t
+shape_of-t c = c.loop-p.invariant.walk.kept.long
 
 pub returns : goal.returns
 returns c = number-end c.requires c.loop-p.invariant c.loop-p-test.false
