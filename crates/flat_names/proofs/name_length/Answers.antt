@@ -1,0 +1,7 @@
+-- `flat_names::name_length` meets its contract: the part of the field before the padding.
+-- Assumes nothing.
+use Rattle.flat_names.proofs.Looking.{name-cut}
+use Rattle.flat_names.proofs.name_length.Goals as goal
+
+pub returns : goal.returns
+returns c = name-cut (record { width = c.args.w; bytes = c.args.s.now }) c.args.p _ c.unpadded-t.ensures

@@ -1,0 +1,9 @@
+-- `flat_names::put_underscores` meets its contract: an underscore is written as often as the byte says.
+-- Assumes nothing.
+use Rattle.names.specs.Names.{underscore}
+use mathlib.Core.Path.{refl}
+use Rattle.flat_names.proofs.put_underscores.Goals as goal
+
+pub returns : goal.returns
+unfolding underscore
+returns c = (refl, c.put_same.ensures)

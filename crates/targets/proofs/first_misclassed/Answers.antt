@@ -1,0 +1,98 @@
+-- `targets::first_misclassed` meets its contract: no mark before p is misclassed.
+-- Assumes nothing.
+use borrow.Author.Tests.{eq-eqb, ne_eqb}
+use native.Mathlib.Omega.{arith}
+use mathlib.Core.Bool.{not}
+use mathlib.Core.Path.{◌∙◌, ap}
+use Rattle.names.specs.Scans.{found_of}
+use Rattle.names.proofs.Scans.{at-found, nothing-found}
+use Rattle.recipe.proofs.Going.{going_end, going-hit, going_on, going_start}
+use Rattle.tree.specs.Faults.{fault₁₀}
+use Rattle.targets.proofs.Misclassed.{aim-low, fits-here, misclassed, not-owned, own-low, row_here, this}
+use Rattle.targets.proofs.first_misclassed.Goals as goal
+
+pub loop-p-init : goal.loop-p-init
+loop-p-init c = going_start _ _
+
+pub bounds-s-p : goal.bounds-s-p
+bounds-s-p c = omega (arith, c.loop-p-test.true)
+
+pub is_owned-requires : goal.is_owned-requires
+is_owned-requires c = tt
+
+pub cell-requires : goal.cell-requires
+cell-requires c =
+    omega (arith, row_here c.requires c.loop-p.invariant c.loop-p-test.true)
+
+pub class_of-a-requires : goal.class_of-a-requires
+class_of-a-requires c =
+    own-low c.requires c.loop-p.invariant c.loop-p-test.true c.is_owned.ensures c.if-is_owned.true c.cell.ensures.0
+
+pub cell-requires-then-is_owned : goal.cell-requires-then-is_owned
+cell-requires-then-is_owned c =
+    omega (arith, row_here c.requires c.loop-p.invariant c.loop-p-test.true)
+
+pub class_of-b-requires : goal.class_of-b-requires
+class_of-b-requires c =
+    aim-low c.requires c.loop-p.invariant c.loop-p-test.true c.is_owned.ensures c.if-is_owned.true c.cell-then-is_owned.ensures.0
+
+pub returns-then-a-b : goal.returns-then-a-b
+unfolding fault₁₀ found_of
+returns-then-a-b c =
+    let R = c.requires in
+    let g = c.loop-p.invariant in
+    let l = c.loop-p-test.true in
+    let is-owned = c.is_owned.ensures in
+    let if1-taken = c.if-is_owned.true in
+    let cell = c.cell.ensures.0 in
+    let cell2 = c.cell-then-is_owned.ensures.0 in
+    let class_of = c.class_of-a.ensures in
+    let class-of2 = c.class_of-b.ensures in
+    at-found (going-hit (this R g l) (misclassed R g l is-owned if1-taken cell cell2 class_of class-of2 ∙ ap not (ne_eqb _ _ c.if-a-b.true)))
+
+pub record_length-p-requires : goal.record_length-p-requires
+record_length-p-requires c = omega (arith, c.requires.measured.linked.numbered.shadowed.narrow)
+
+pub overflow_add-p : goal.overflow_add-p
+overflow_add-p c =
+    let R = c.requires in
+    let g = c.loop-p.invariant in
+    let l = c.loop-p-test.true in
+    omega (arith, fits-here R g l c.record_length-p.ensures, R.measured.linked.numbered.shadowed.short)
+
+pub loop-p-smaller-then-is_owned : goal.loop-p-smaller-then-is_owned
+loop-p-smaller-then-is_owned c =
+    omega (arith, fits-here c.requires c.loop-p.invariant c.loop-p-test.true c.record_length-p.ensures)
+
+pub loop-p-preserved-then-is_owned : goal.loop-p-preserved-then-is_owned
+loop-p-preserved-then-is_owned c =
+    let R = c.requires in
+    let g = c.loop-p.invariant in
+    let l = c.loop-p-test.true in
+    let is-owned = c.is_owned.ensures in
+    let if1-taken = c.if-is_owned.true in
+    let cell = c.cell.ensures.0 in
+    let cell2 = c.cell-then-is_owned.ensures.0 in
+    let class_of = c.class_of-a.ensures in
+    let class-of2 = c.class_of-b.ensures in
+    let if2-left = c.if-a-b.false in
+    going_on (this R g l) (misclassed R g l is-owned if1-taken cell cell2 class_of class-of2 ∙ ap not (eq-eqb _ _ if2-left)) c.record_length-p.ensures
+
+pub record_length-p-requires-else-is_owned : goal.record_length-p-requires-else-is_owned
+record_length-p-requires-else-is_owned c = omega (arith, c.requires.measured.linked.numbered.shadowed.narrow)
+
+pub overflow_add-p-else-is_owned : goal.overflow_add-p-else-is_owned
+overflow_add-p-else-is_owned c =
+    omega (arith, fits-here c.requires c.loop-p.invariant c.loop-p-test.true c.record_length-p-else-is_owned.ensures, c.requires.measured.linked.numbered.shadowed.short)
+
+pub loop-p-smaller : goal.loop-p-smaller
+loop-p-smaller c =
+    omega (arith, fits-here c.requires c.loop-p.invariant c.loop-p-test.true c.record_length-p-else-is_owned.ensures)
+
+pub loop-p-preserved : goal.loop-p-preserved
+loop-p-preserved c =
+    not-owned c.requires c.loop-p.invariant c.loop-p-test.true c.is_owned.ensures c.if-is_owned.false c.record_length-p-else-is_owned.ensures
+
+pub returns : goal.returns
+unfolding fault₁₀ found_of
+returns c = nothing-found (going_end c.loop-p.invariant c.loop-p-test.false)
