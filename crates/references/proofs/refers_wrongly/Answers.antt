@@ -1,0 +1,41 @@
+-- `references::refers_wrongly` meets its contract: by the reference field, and by the chain's end.
+-- Assumes nothing.
+use native.Mathlib.Omega.{arith}
+use Rattle.elements.proofs.Elements.{row-element, row-place, row_room}
+use Rattle.references.proofs.References.{end-numbers, fault-blank, fault-end, fault-none, row-class}
+use Rattle.references.proofs.refers_wrongly.Goals as goal
+
+pub overflow_mul-e : goal.overflow_mul-e
+overflow_mul-e c = omega (arith, row_room c.requires.0.row₇ c.requires.0.rows c.requires.1.0)
+
+pub cell-p-requires : goal.cell-p-requires
+cell-p-requires c = omega (arith, row_room c.requires.0.row₇ c.requires.0.rows c.requires.1.0)
+
+pub overflow_add-c : goal.overflow_add-c
+overflow_add-c c = omega (arith, row-class c.requires.0 c.requires.1.0 c.cell-p.ensures.0)
+
+pub overflow_add-c-2 : goal.overflow_add-c-2
+overflow_add-c-2 c = omega (arith, row-class c.requires.0 c.requires.1.0 c.cell-p.ensures.0)
+
+pub bounds-s-p : goal.bounds-s-p
+bounds-s-p c = omega (arith, row-class c.requires.0 c.requires.1.0 c.cell-p.ensures.0)
+
+pub refers_to_none-requires : goal.refers_to_none-requires
+refers_to_none-requires c =
+    (c.requires.0.narrow, (c.requires.0.short, row-place c.requires.0.row₇ c.requires.0.rows c.requires.1.0 c.cell-p.ensures.0))
+
+pub returns-then-refers_to_none : goal.returns-then-refers_to_none
+returns-then-refers_to_none c =
+    fault-blank c.requires.0 (row-element c.requires.0.row₇ c.requires.0.rows c.requires.1.0 c.cell-p.ensures.0) c.requires.1.1 c.refers_to_none.ensures c.if-refers_to_none.true c.reference_may_be_blank.ensures
+
+pub returns-then-z-eq0 : goal.returns-then-z-eq0
+returns-then-z-eq0 c =
+    fault-none c.requires.0 (row-element c.requires.0.row₇ c.requires.0.rows c.requires.1.0 c.cell-p.ensures.0) c.requires.1.1 c.refers_to_none.ensures c.if-refers_to_none.false c.if-z-eq0.true
+
+pub is_unfit-requires : goal.is_unfit-requires
+is_unfit-requires c =
+    (c.requires.0, end-numbers c.requires.0 (row-element c.requires.0.row₇ c.requires.0.rows c.requires.1.0 c.cell-p.ensures.0) c.requires.1.1 c.refers_to_none.ensures c.if-z-eq0.false)
+
+pub returns : goal.returns
+returns c =
+    fault-end c.requires.0 (row-element c.requires.0.row₇ c.requires.0.rows c.requires.1.0 c.cell-p.ensures.0) c.requires.1.1 c.refers_to_none.ensures c.if-z-eq0.false c.if-refers_to_none.false c.is_unfit.ensures
