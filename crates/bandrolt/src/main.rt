@@ -12,21 +12,22 @@ ghost use Rattle.bandrolt.specs.Text.{Stands, Lent, row_lines};
 ghost use Rattle.bandrolt.specs.Reading.{got_of, ReadWithin};
 
 use composer::Answer;
-use libc::{STDIN_FILENO, STDOUT_FILENO};
+use std::io::{Error, Read, Result};
+use std::process::ExitCode;
 
-// What one read answers: how many bytes more are there, the end of the input, or that it failed.
-#[derive(Clone, Copy)]
+// What one read answers: how many bytes more are there, the end of the input, or why it failed.
+#[derive(Drop)]
 pub enum Got {
     More(usize),
     End,
-    Failed,
+    Failed(Error),
 }
 
-// What reading answers: how many bytes it put at the start of the room, or that a read failed.
-#[derive(Clone, Copy)]
+// What reading answers: how many bytes it put at the start of the room, or why a read failed.
+#[derive(Drop)]
 pub enum Input {
     Read(usize),
-    Failed,
+    Failed(Error),
 }
 
 // Puts the bytes into the text at `at`, and answers where they end.
@@ -148,48 +149,54 @@ fn print_recipe(input: &[u8], n: usize, table: &mut [u8], text: &mut [u8]) -> us
 }
 
 // What a read into the room answered.
-fn judge(got: isize, room: &[u8]) -> Got
-    ensures { result ≡ got_of got (length room.now) }
+fn judge(answered: Result<usize>, room: &[u8]) -> Got
+    ensures { result ≡ got_of answered (length room.now) }
 {
-    if got < 0 {
-        return Got::Failed;
+    match answered {
+        Err(why) => Got::Failed(why),
+        Ok(count) => {
+            let n = count.min(room.len());
+            if n == 0 {
+                return Got::End;
+            }
+            Got::More(n)
+        }
     }
-    let n = io::count(got, room);
-    if n == 0 {
-        return Got::End;
-    }
-    Got::More(n)
 }
 
 // Reads until the input ends, the room is full or a read fails.
-fn read_input(fd: i32, input: &mut [u8]) -> Input
+fn read_input<R: Read>(reader: &mut R, input: &mut [u8]) -> Input
     ensures { ReadWithin (length input.old) result }
 {
     let mut n = 0;
     while n < input.len() {
-        let answered = libc::read(fd, &mut input[n..]);
+        let answered = reader.read(&mut input[n..]);
         let got = judge(answered, &input[n..]);
         match got {
             Got::More(more) => n += more,
             Got::End => return Input::Read(n),
-            Got::Failed => return Input::Failed,
+            Got::Failed(why) => return Input::Failed(why),
         }
     }
     Input::Read(n)
 }
 
-// Reads at most 16,385 bytes, and lends 65,395 for the table. Where reading failed nothing is written.
-fn main() {
+// Reads at most 16,385 bytes, and lends 65,395 for the table. Where reading failed nothing is written; a failure is told on standard error, and by the status.
+fn main(rt: HostRuntime) -> ExitCode {
     let mut input = [0u8; 16385];
     let mut table = [0u8; 65395];
     let mut text = [0u8; 67335];
-    let read = read_input(STDIN_FILENO, &mut input);
-    let Input::Read(n) = read else {
-        os::fail(b"bandrolt: standard input");
-        return;
+    let n = match read_input(&mut rt.stdin(), &mut input) {
+        Input::Read(n) => n,
+        Input::Failed(why) => {
+            let _ = eprintln!(rt; "bandrolt: standard input: {why}");
+            return ExitCode::FAILURE;
+        }
     };
     let m = print_recipe(&input, n, &mut table, &mut text);
-    if !io::write_all(STDOUT_FILENO, &text[..m]) {
-        os::fail(b"bandrolt: standard output");
+    if let Err(why) = rt.write_all(&text[..m]) {
+        let _ = eprintln!(rt; "bandrolt: standard output: {why}");
+        return ExitCode::FAILURE;
     }
+    ExitCode::SUCCESS
 }
