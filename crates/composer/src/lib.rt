@@ -1,5 +1,5 @@
 // Flattening: a recipe's answer, and its flat table, written from the rooms that composing fills.
-// Public calls, which require nothing: flatten; bandrolt_flatten, the same exported to C; flatten_and_check. For the floors above: field_width, record_width, NAME_WIDTH, count_survivors, Site, site_at, put_field, write_table.
+// Public calls, which require nothing: flatten, exported to C by composer_c as bandrolt_flatten; flatten_and_check. For the floors above: field_width, record_width, NAME_WIDTH, count_survivors, Site, site_at, put_field, write_table.
 #![tactic(auto)]
 
 ghost use Rattle.std.specs.Prelude.{◌≡◌, ◌++◌, ◌+◌, ◌*◌, ◌<◌, ◌≤◌, length, get_or, drop};
@@ -226,14 +226,6 @@ pub fn flatten(recipe: &[u8], table: &mut [u8]) -> Answer
         return refusal(number, place);
     }
     flatten_composed(recipe, NAME_WIDTH, &t, &inst, &el, insts, elems, table)
-}
-
-// The same, for C.
-#[unsafe(no_mangle)]
-pub extern "C" fn bandrolt_flatten(recipe: &[u8], table: &mut [u8]) -> Answer
-    ensures { (result ≡ verdict (recipe_of recipe.now) (length table.old)) × (table.new ≡ written (recipe_of recipe.now) table.old) }
-{
-    flatten(recipe, table)
 }
 
 // Flattens, and asks the table check about the bytes written, none on a refusal: its own answer, which is always acceptance with the count of flattening.

@@ -1,5 +1,5 @@
 // Flattening with factors, Paper 2 of 02: the flat table, and beside it the companion of the elements of class 4 and 6 with the factors of the submodels around them.
-// Public call, which requires nothing: bandrolt_flatten_with_factors, exported to C.
+// Public call, which requires nothing: bandrolt_flatten_with_factors, exported to C by factors_c.
 #![tactic(auto)]
 
 ghost use Rattle.std.specs.Prelude.{◌≡◌, [], ◌++◌, ◌∷◌, ◌+◌, ◌*◌, ◌<◌, ◌≤◌, length, take, drop};
@@ -300,8 +300,7 @@ fn flatten_composed(
 }
 
 // 02's flattening with factors of a recipe of name width 12: the answer, the flat table as `bandrolt_flatten` writes it, and the companion; on a refusal both outputs as they were.
-#[unsafe(no_mangle)]
-pub extern "C" fn bandrolt_flatten_with_factors(
+pub fn bandrolt_flatten_with_factors(
     recipe: &[u8],
     table: &mut [u8],
     companion: &mut [u8],

@@ -1,5 +1,5 @@
 // The flat table and its check: 01's refusals 14 to 17. It stands beneath the composer and knows nothing of recipes.
-// Public calls, which require nothing: bandrolt_check_table, exported to C; is_class, parent_may_be_blank, parent_allowed, reference_may_be_blank
+// Public calls, which require nothing: bandrolt_check_table, exported to C by flat_table_c; is_class, parent_may_be_blank, parent_allowed, reference_may_be_blank
 // and reference_allowed, for the floors above.
 #![tactic(auto)]
 
@@ -197,8 +197,7 @@ fn check_table(table: &[u8], l: Layout) -> TableAnswer
 }
 
 // 01's table check of a table of name width 12: its number, its place, and the number of records.
-#[unsafe(no_mangle)]
-pub extern "C" fn bandrolt_check_table(table: &[u8]) -> TableAnswer
+pub fn bandrolt_check_table(table: &[u8]) -> TableAnswer
     ensures { result ≡ table_verdict 12 table.now }
 {
     check_table(

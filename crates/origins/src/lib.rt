@@ -1,5 +1,5 @@
 // From a flat name back to the recipe: the submodel records from main downward, and the element record. No table is written.
-// Public call, which requires nothing: bandrolt_walk_back, exported to C.
+// Public call, which requires nothing: bandrolt_walk_back, exported to C by origins_c.
 #![tactic(auto)]
 
 ghost use Rattle.std.specs.Prelude.{◌≡◌, [], ◌<◌, length, get_or};
@@ -194,8 +194,7 @@ fn walk_composed(
 }
 
 // 02's walk back, of a recipe of name width 12 and a flat name: where the survivor of that name comes from, or the refusal.
-#[unsafe(no_mangle)]
-pub extern "C" fn bandrolt_walk_back(recipe: &[u8], name: &[u8]) -> Origin
+pub fn bandrolt_walk_back(recipe: &[u8], name: &[u8]) -> Origin
     ensures { result ≡ walk_back (recipe_of recipe.now) name.now }
 {
     let mut t = [0u16; compose::SHADOW_CELLS];
