@@ -19,7 +19,7 @@ CRATES = {
     "samples": ["Samples", "Walks", "Companions"],
 }
 # What is defined by a type of the code: no proof by computation meets it.
-LEFT_OUT = {"fieldOf", "optionalOf"}
+LEFT_OUT = {"field_of", "optional_of"}
 HEAD = """-- One name that opens every definition of the specs: a proof by computation says `unfolding open-specs`.
 -- Written by tools/open_specs.py from the specs of all floors. Assumes nothing.
 """
@@ -33,13 +33,13 @@ def definitions(crate, module):
 
 opened, imports = [], []
 for crate, modules in CRATES.items():
-    path = "Rattle·samples·specs.specs" if crate == "samples" else "Rattle·%s.specs" % crate
+    path = "Rattle.%s.specs" % crate
     for module in modules:
         listed = []
         for name in definitions(crate, module):
             # Two floors may use one name: the upper one's gets a prime.
-            listed.append("%s as %s′" % (name, name) if name in opened else name)
-            opened.append(name + "′" if name in opened else name)
+            listed.append("%s as %s'" % (name, name) if name in opened else name)
+            opened.append(name + "'" if name in opened else name)
         imports.append("use %s.%s.{%s}" % (path, module, ", ".join(listed)))
 
 with open("crates/samples/proofs/Open.antt", "w") as file:

@@ -48,9 +48,9 @@ pub struct CompanionSample {
     pub written: [Vec<u8>; 2],
 }
 
-/// What is in the lists of which a proved statement says `every holdsOf`.
+/// What is in the lists of which a proved statement says `every holds_of`.
 pub fn recipes() -> Vec<Sample> {
-    stated("holdsOf", |made, of| match (made, of) {
+    stated("holds_of", |made, of| match (made, of) {
         ("refuses", [recipe, room, number, place]) => Sample {
             recipe: recipe.bytes(),
             room: room.number(),
