@@ -16,7 +16,7 @@ use Rattle.recipe.specs.Reading.{fault₅}
 use Rattle.recipe.specs.Records.{Recipe, is_replaced_by}
 use Rattle.tree.specs.Faults.{fault₇, fault₈}
 use Rattle.tree.specs.Numbers.{number}
-use Rattle.tree.specs.Tree.{Node, node, same_node, target, tree_elements}
+use Rattle.tree.specs.Tree.{Node, node, same_node, tree_elements}
 use Rattle.tree.proofs.Instances.{depth}
 use Rattle.tree.proofs.Nodes.{node-same, same-node}
 use Rattle.tree.proofs.Numbering.{number-inj}

@@ -1,5 +1,5 @@
 -- How a field reads, by the run of bytes that may stand in a name and the bytes behind it. Assumes nothing.
-use mathlib.Core.Path.{◌≡◌, refl, sym, ap, ◌∙◌, subst}
+use mathlib.Core.Path.{◌≡◌, refl, sym, ap, ◌∙◌}
 use mathlib.Core.Bool.{Bool, true, false, not, ◌&&◌, false≢true}
 use mathlib.Core.List.{List, [], ◌∷◌, ◌++◌}
 use Prim.Native.Nat.{ℕ, zero, suc, ◌+◌, ◌-◌, ◌<◌, ◌≤◌}
@@ -14,7 +14,6 @@ use Rattle.names.specs.Names.{is_letter, is_digit, underscore, is_first, is_othe
 use Rattle.names.specs.declared.Field.{Field}
 use Rattle.names.specs.declared.Field.TheVariants.{Name, Blank, Neither}
 use mathlib.Core.Logic.{◌⊎◌, inl, inr}
-use Rattle.names.specs.contracts.Field.{the_type}
 use Rattle.names.specs.Runs.{Run}
 use Rattle.names.proofs.Tests.{by_cases, not-both, and_left, and_right, both}
 use Rattle.names.proofs.Lists.{at-cons, every-on, every-off, while-on, while-off, take_while, every_append, every-replicate}

@@ -11,7 +11,7 @@ use lib.ListN.{length, get_or}
 use Rattle.names.specs.Lists.{In, first}
 use Rattle.names.proofs.Tests.{by_cases}
 use Rattle.recipe.specs.Records.{Recipe, kind, record_length, next, is_readable, places_from, stop_from, places, stop, is_element}
-use Rattle.recipe.proofs.Reading.{readable-fits, next_more, unread, readable, whole}
+use Rattle.recipe.proofs.Reading.{readable-fits, next_more, unread, readable}
 use borrow.Author.Tests.{eqb-true}
 use Rattle.recipe.proofs.RecordLengths.{length_three}
 

@@ -17,7 +17,7 @@ use Rattle.recipe.specs.Definitions.{definitions, holder, main, records_of}
 use Rattle.recipe.specs.Records.{Recipe, is_model, is_readable, next, places, places_from, stop, stop_from}
 use Rattle.recipe.proofs.Definitions.{definitions-rise}
 use Rattle.recipe.proofs.Going.{none-past}
-use Rattle.recipe.proofs.Reading.{readable, next_more, places-least, readable-fits, whole}
+use Rattle.recipe.proofs.Reading.{readable, next_more, places-least, readable-fits}
 
 module _ (s : Recipe) where
   -- a definition at or before a record is at or before its holder

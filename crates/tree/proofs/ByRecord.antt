@@ -6,7 +6,7 @@ use lib.Dec.{eqb}
 use mathlib.Core.Bool.{Bool, ◌&&◌, false, not, true}
 use mathlib.Core.List.{List}
 use mathlib.Core.Path.{◌∙◌, ◌≡◌, ap, refl, sym}
-use Rattle.names.specs.Lists.{In, any, same}
+use Rattle.names.specs.Lists.{In, any}
 use Rattle.names.proofs.Lists.{any-in, keep-in, any_none, any_some}
 use Rattle.names.proofs.Tests.{and_left, and_right, both, both_ways, by_cases, not-both}
 use Rattle.recipe.specs.Definitions.{holder, records_of}

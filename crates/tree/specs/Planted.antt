@@ -5,7 +5,7 @@
 --
 -- Assumes nothing.
 use Rattle.std.specs.Prelude.{◌*◌, ◌+◌, ◌<◌, ◌≤◌, suc, ℕ, eqb, drop, get_or, length, cond, List, [], ◌++◌, ◌∷◌, ◌≡◌}
-use Rattle.std.proofs.Math.Option.{none, some}
+use Rattle.std.proofs.Math.Option.{none}
 use Rattle.names.specs.Lists.{In}
 use Rattle.recipe.specs.Definitions.{definitions, holder, main, submodels}
 use Rattle.recipe.specs.Records.{Recipe, places}

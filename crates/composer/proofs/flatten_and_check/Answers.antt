@@ -13,8 +13,7 @@ slice_bounds-bandrolt_check_table-end c =
 
 pub returns : goal.returns
 unfolding recipe_of name_width
-returns c =
-    (
-      check-answers (recipe_of c.args.recipe.now) twelve c.args.table.now _ c.flatten-a.result c.flatten-a.ensures.0 c.flatten-a.ensures.1 _ (c.flatten-a.result.bytes - 0) (omega arith) c.bandrolt_check_table.ensures,
-      c.flatten-a.ensures.1,
-    )
+returns c = (
+  check-answers (recipe_of c.args.recipe.now) twelve c.args.table.now _ c.flatten-a.result c.flatten-a.ensures.0 c.flatten-a.ensures.1 _ (c.flatten-a.result.bytes - 0) (omega arith) c.bandrolt_check_table.ensures,
+  c.flatten-a.ensures.1,
+)

@@ -1,6 +1,5 @@
 -- `heights::settle_from` meets its contract: the invariant: the submodels before p are settled, no higher than h. The definitions not seen yet get fewer.
 -- Assumes nothing.
-use Prim.Native.Nat.{ℕ}
 use mathlib.Core.Path.{refl, sym, ◌∙◌}
 use native.Mathlib.Omega.{arith}
 use lib.ListN.{length-set}

@@ -2,7 +2,7 @@
 use mathlib.Core.List.{◌++◌}
 use lib.ListN.{length, drop, take}
 use mathlib.Core.Path.{◌≡◌}
-use Prim.Native.Nat.{◌≤◌, ◌-◌, ◌+◌}
+use Prim.Native.Nat.{◌≤◌, ◌-◌}
 use Rattle.name_index.proofs.copy.Given as goal
 
 abbrev pub invariant-loop-i : goal.invariant-loop-i

@@ -1,12 +1,8 @@
 -- `name_index::merge` meets its contract: the invariant: what is left to write, from place i + j on, is what is left of the two runs merged.
 -- Assumes nothing.
-use Prim.Native.Nat.{◌<◌}
-use mathlib.Core.Path.{◌≡◌, sym, ◌∙◌}
-use mathlib.Core.Bool.{true, false}
+use mathlib.Core.Path.{sym, ◌∙◌}
 use native.Mathlib.Omega.{arith}
-use lib.ListN.{length, drop}
 use Rattle.name_index.specs.Index.{keyed_name}
-use Rattle.name_index.specs.Steps.{next_right}
 use Rattle.name_index.proofs.Merging.{left_one, left-done, right-room, left-room, merge-right, merge-left, merge-end, length_merged}
 use Rattle.name_index.proofs.merge.Goals as goal
 
