@@ -15,10 +15,11 @@ SAMPLE = examples/sample-r.recipe
 RECIPE = $(SAMPLE)
 try: tools-there
 ifeq ($(RECIPE),$(SAMPLE))
-	@tools/try.sh crates/bandrolt/stdin
+	@tools/try.sh crates/bandrolt/stdin crates/bandrolt/stdout
 else
 	@$(CARGO) recipe encode "$(RECIPE)" > target/recipe
-	@tools/try.sh target/recipe
+	@$(CARGO) recipe print target/recipe > target/printed
+	@tools/try.sh target/recipe target/printed
 endif
 
 # The same with the proved program, which takes some minutes to prove, once.

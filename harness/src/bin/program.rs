@@ -156,14 +156,14 @@ fn prints(output: io::Result<Output>, expected: &str) -> bool {
     holds
 }
 
-/// It printed nothing, said what failed in one line, and ended by itself. A program of the kit has no way to another status.
+/// It printed nothing, said what failed in one line, and ended by itself with the status of a failure.
 fn tells(output: io::Result<Output>, what: &str) -> bool {
     let Some(output) = there(output) else {
         return false;
     };
     let said = String::from_utf8_lossy(&output.stderr);
     let is_line = said.starts_with(what) && said.lines().count() == 1 && said.ends_with('\n');
-    let holds = output.stdout.is_empty() && is_line && output.status.code().is_some();
+    let holds = output.stdout.is_empty() && is_line && output.status.code() == Some(1);
     if !holds {
         let printed = String::from_utf8_lossy(&output.stdout);
         let status = output.status;
