@@ -1,4 +1,5 @@
 -- `bandrolt::print_rows` meets its contract: the invariant: the lines of the records before p are put there, and the others have room.
+-- Assumes nothing.
 use Prim.Native.Nat.{◌-◌}
 use lib.ListN.{length}
 use Rattle.bandrolt.proofs.Rows.{PrintLoop}

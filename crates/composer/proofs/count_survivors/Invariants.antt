@@ -1,4 +1,5 @@
 -- `composer::count_survivors` meets its contract: those counted, and the survivors from e on, are all.
+-- Assumes nothing.
 use Prim.Native.Nat.{◌-◌}
 use Rattle.composer.proofs.Writing.{CountLoop, survives}
 use Rattle.composer.proofs.count_survivors.Given as goal

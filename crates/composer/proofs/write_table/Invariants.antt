@@ -1,4 +1,5 @@
 -- `composer::write_table` meets its contract: with the records of the survivors from e on, what is written is the whole table.
+-- Assumes nothing.
 use Prim.Native.Nat.{◌-◌}
 use Rattle.composer.specs.Flat.{flat_record}
 use Rattle.composer.proofs.Writing.{WriteLoop, survives}

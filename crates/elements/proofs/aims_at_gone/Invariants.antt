@@ -1,4 +1,5 @@
 -- `elements::aims_at_gone` meets its contract: no instance passed has a target that is gone.
+-- Assumes nothing.
 use Prim.Native.Nat.{◌-◌}
 use lib.ListN.{length}
 use Rattle.tree.specs.Tree.{instances}

@@ -1,4 +1,5 @@
 -- `elements::elements_at` meets its contract: the instances passed have the element in the table.
+-- Assumes nothing.
 use mathlib.Core.Path.{◌≡◌}
 use Prim.Native.Nat.{◌-◌}
 use lib.ListN.{length}

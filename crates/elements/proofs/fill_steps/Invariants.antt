@@ -1,4 +1,5 @@
 -- `elements::fill_steps` meets its contract: the steps of the records before p are in the table.
+-- Assumes nothing.
 use Prim.Native.Nat.{◌-◌, ◌<◌, ◌≤◌}
 use lib.ListN.{length}
 use mathlib.Core.Bool.{false}

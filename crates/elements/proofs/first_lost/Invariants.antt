@@ -1,4 +1,5 @@
 -- `elements::first_lost` meets its contract: no replaced-by before p has a target that is gone.
+-- Assumes nothing.
 use Prim.Native.Nat.{◌-◌, ◌≤◌}
 use lib.ListN.{length}
 use Rattle.recipe.proofs.Going.{Going}

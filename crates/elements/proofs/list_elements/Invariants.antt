@@ -1,4 +1,5 @@
 -- `elements::list_elements` meets its contract: the elements of the records before p are in the table.
+-- Assumes nothing.
 use mathlib.Core.Path.{◌≡◌}
 use Prim.Native.Nat.{◌-◌, ◌<◌, ◌≤◌}
 use lib.ListN.{length}

@@ -1,4 +1,5 @@
 -- `elements::mark_gone` meets its contract: the elements with numbers below e are marked.
+-- Assumes nothing.
 use Prim.Native.Nat.{◌-◌, ◌≤◌}
 use mathlib.Core.Bool.{cond}
 use Rattle.tree.specs.Tree.{tree_elements}

@@ -1,4 +1,5 @@
 -- `elements::steps_at` meets its contract: the instances passed have their steps in the table.
+-- Assumes nothing.
 use Prim.Native.Nat.{◌-◌}
 use lib.ListN.{length}
 use Rattle.tree.specs.Tree.{instances}

@@ -1,4 +1,5 @@
 -- `factor_ends::first_misfactored` meets its contract: no kind 8 before p has a factor at fault.
+-- Assumes nothing.
 use Prim.Native.Nat.{◌-◌, ◌≤◌}
 use lib.ListN.{length}
 use Rattle.recipe.proofs.Going.{Going}

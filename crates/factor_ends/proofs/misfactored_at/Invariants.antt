@@ -1,4 +1,5 @@
 -- `factor_ends::misfactored_at` meets its contract: no instance passed has a factor at fault.
+-- Assumes nothing.
 use Prim.Native.Nat.{◌-◌}
 use lib.ListN.{length}
 use Rattle.recipe.specs.Records.{is_factors}

@@ -1,4 +1,5 @@
 -- `factor_pairs::pair_factors` meets its contract: the kind 8 records before p are paired, and none is refused.
+-- Assumes nothing.
 use Prim.Native.Nat.{◌-◌}
 use lib.ListN.{length}
 use Rattle.factor_pairs.proofs.Pairing.{PairLoop}

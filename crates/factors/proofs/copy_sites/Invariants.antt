@@ -1,4 +1,5 @@
 -- `factors::copy_sites` meets its contract: the invariant: k numbers are copied.
+-- Assumes nothing.
 use Prim.Native.Nat.{◌-◌, ◌≤◌}
 use Rattle.names.proofs.Stores.{Copied}
 use Rattle.factors.proofs.copy_sites.Given as goal

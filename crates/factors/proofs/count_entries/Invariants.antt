@@ -1,4 +1,5 @@
 -- `factors::count_entries` meets its contract: those counted, and those from e on, are all.
+-- Assumes nothing.
 use Prim.Native.Nat.{◌-◌}
 use Rattle.composer.proofs.Writing.{CountLoop}
 use Rattle.factors.specs.Sites.{is_entry}

@@ -1,4 +1,5 @@
 -- `factors::fill_sites` meets its contract: the invariant: the rows of the first i instances.
+-- Assumes nothing.
 use Prim.Native.Nat.{◌-◌, ◌≤◌, ◌<◌}
 use mathlib.Core.Path.{◌≡◌}
 use lib.ListN.{length}

@@ -1,4 +1,5 @@
 -- `factors::put_factors` meets its contract: the invariant: j fields are written, one behind the other.
+-- Assumes nothing.
 use Prim.Native.Nat.{◌-◌}
 use Rattle.factors.proofs.Entries.{FieldsLoop}
 use Rattle.factors.proofs.put_factors.Given as goal

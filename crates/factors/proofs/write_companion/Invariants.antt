@@ -1,4 +1,5 @@
 -- `factors::write_companion` meets its contract: with the entries of the elements from e on, what is written is the whole companion; and the row has the factors of the last instance.
+-- Assumes nothing.
 use Prim.Native.Nat.{◌-◌, ◌<◌}
 use mathlib.Core.Path.{◌≡◌}
 use lib.ListN.{length}

@@ -1,4 +1,5 @@
 -- `flat_names::copy_row` meets its contract: the invariant: k bytes are copied.
+-- Assumes nothing.
 use Prim.Native.Nat.{◌-◌, ◌≤◌}
 use Rattle.names.proofs.Stores.{Copied}
 use Rattle.flat_names.proofs.copy_row.Given as goal

@@ -1,4 +1,5 @@
 -- `flat_names::count_underscores` meets its contract: the invariant: the first k bytes, those before p, are underscores.
+-- Assumes nothing.
 use mathlib.Core.Path.{◌≡◌}
 use Prim.Native.Nat.{ℕ, ◌+◌, ◌-◌, ◌≤◌, ◌<◌}
 use lib.ListN.{get_or}

@@ -1,4 +1,5 @@
 -- `flat_names::fill_prefixes` meets its contract: the invariant: the rows of the first i instances.
+-- Assumes nothing.
 use Prim.Native.Nat.{◌-◌}
 use Rattle.flat_names.proofs.Filling.{Rowed}
 use Rattle.flat_names.proofs.fill_prefixes.Given as goal

@@ -1,4 +1,5 @@
 -- `flat_names::put_same` meets its contract: the invariant: i bytes are written.
+-- Assumes nothing.
 use Prim.Native.Nat.{◌-◌, ◌≤◌}
 use Rattle.flat_names.proofs.Puts.{Repeated}
 use Rattle.flat_names.proofs.put_same.Given as goal

@@ -1,4 +1,5 @@
 -- `flat_names::raise_count` meets its contract: the invariant: the count is one of the tries, and the names that are left raise it to the last.
+-- Assumes nothing.
 use Prim.Native.Nat.{◌-◌}
 use lib.ListN.{length}
 use Rattle.flat_names.proofs.Looking.{RaiseLoop}

@@ -1,4 +1,5 @@
 -- `flat_table::first_unlinked` meets its contract: the invariant: what is left to scan from i on.
+-- Assumes nothing.
 use Prim.Native.Nat.{◌*◌, ◌-◌, ◌≤◌}
 use mathlib.Core.Path.{◌≡◌}
 use Rattle.names.specs.Scans.{scan, first_from}

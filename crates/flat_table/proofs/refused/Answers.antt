@@ -1,4 +1,5 @@
 -- `flat_table::refused` meets its contract, by computing. Assumes nothing.
+-- Assumes nothing.
 use mathlib.Core.Path.{refl}
 use Rattle.flat_table.proofs.refused.Goals as goal
 

@@ -1,4 +1,5 @@
 -- `heights::expand` meets its contract: the invariant: the models of the submodels before p are marked and queued.
+-- Assumes nothing.
 use Prim.Native.Nat.{◌-◌}
 use lib.ListN.{length}
 use Rattle.heights.proofs.Search.{ExpandLoop}

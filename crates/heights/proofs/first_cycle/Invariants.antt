@@ -1,4 +1,5 @@
 -- `heights::first_cycle` meets its contract: the invariant: what is left to scan from p on.
+-- Assumes nothing.
 use Prim.Native.Nat.{◌-◌, ◌≤◌}
 use lib.ListN.{length}
 use Rattle.recipe.proofs.Going.{Going}

@@ -1,4 +1,5 @@
 -- `heights::reaches_itself` meets its contract: the invariant: what is marked is reached, and the first `head` of the queue are expanded.
+-- Assumes nothing.
 use Prim.Native.Nat.{◌-◌}
 use Rattle.heights.proofs.Search.{SearchLoop}
 use Rattle.heights.proofs.reaches_itself.Given as goal

@@ -1,4 +1,5 @@
 -- `heights::settle` meets its contract: the invariant: the definitions before p are settled, and none is in progress.
+-- Assumes nothing.
 use Prim.Native.Nat.{◌-◌}
 use lib.ListN.{length}
 use Rattle.heights.proofs.Settling.{SettlesLoop}

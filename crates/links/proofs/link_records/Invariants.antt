@@ -1,4 +1,5 @@
 -- `links::link_records` meets its contract: the invariant: the records before p have their cells 3 to 5, and row 5 refuses none of them.
+-- Assumes nothing.
 use Prim.Native.Nat.{◌-◌}
 use lib.ListN.{length}
 use mathlib.Core.List.{[], ◌∷◌}

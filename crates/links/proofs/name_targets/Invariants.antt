@@ -1,4 +1,5 @@
 -- `links::name_targets` meets its contract: the invariant: the ports and marks before p have their cell 5.
+-- Assumes nothing.
 use Prim.Native.Nat.{◌-◌}
 use lib.ListN.{length}
 use mathlib.Core.List.{[], ◌∷◌}

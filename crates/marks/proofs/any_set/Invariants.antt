@@ -1,4 +1,5 @@
 -- `marks::any_set` meets its contract: the cells passed are not set.
+-- Assumes nothing.
 use mathlib.Core.Path.{◌≡◌}
 use Prim.Native.Nat.{◌+◌, ◌≤◌}
 use lib.ListN.{length}

@@ -1,4 +1,5 @@
 -- `marks::conflicts_at` meets its contract: no instance passed has a conflict.
+-- Assumes nothing.
 use Prim.Native.Nat.{◌-◌}
 use lib.ListN.{length}
 use Rattle.tree.specs.Tree.{instances}

@@ -1,4 +1,5 @@
 -- `marks::enter_at` meets its contract: the instances passed have set their cells.
+-- Assumes nothing.
 use mathlib.Core.Path.{◌≡◌}
 use Prim.Native.Nat.{◌*◌, ◌-◌}
 use lib.ListN.{length}

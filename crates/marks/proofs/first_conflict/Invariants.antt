@@ -1,4 +1,5 @@
 -- `marks::first_conflict` meets its contract: no record before p conflicts with an earlier one, and the cells are those that they set.
+-- Assumes nothing.
 use mathlib.Core.Path.{◌≡◌}
 use Prim.Native.Nat.{◌*◌, ◌-◌, ◌<◌, ◌≤◌}
 use lib.ListN.{length}

@@ -1,4 +1,5 @@
 -- `name_index::sort` meets its contract: the measure is the length.
+-- Assumes nothing.
 use lib.ListN.{length}
 use Rattle.name_index.proofs.+sort.Given as goal
 

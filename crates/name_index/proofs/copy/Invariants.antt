@@ -1,4 +1,5 @@
 -- `name_index::copy` meets its contract: the invariant: the first i places are those of the source.
+-- Assumes nothing.
 use mathlib.Core.List.{◌++◌}
 use lib.ListN.{length, drop, take}
 use mathlib.Core.Path.{◌≡◌}

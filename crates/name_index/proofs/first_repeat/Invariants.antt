@@ -1,4 +1,5 @@
 -- `name_index::first_repeat` meets its contract: the invariant: `best` is the least of the repeats among the first k places, or n.
+-- Assumes nothing.
 use Prim.Native.Nat.{◌-◌, ◌<◌}
 use Rattle.name_index.specs.Index.{keyed_name}
 use Rattle.name_index.proofs.Finds.{Seen}

@@ -1,4 +1,5 @@
 -- `name_index::hash_names` meets its contract: the invariant: the first i places are filled, the others as they were.
+-- Assumes nothing.
 use Prim.Native.Nat.{◌-◌, ◌≤◌}
 use Rattle.name_index.specs.Hash.{hash_of}
 use Rattle.name_index.specs.Index.{name_of}

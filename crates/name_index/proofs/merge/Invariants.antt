@@ -1,4 +1,5 @@
 -- `name_index::merge` meets its contract: the invariant: what is left to write, from place i + j on, is what is left of the two runs merged.
+-- Assumes nothing.
 use Prim.Native.Nat.{◌+◌, ◌-◌, ◌≤◌}
 use lib.ListN.{length, drop}
 use Rattle.name_index.specs.Index.{keyed_name}

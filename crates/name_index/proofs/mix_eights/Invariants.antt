@@ -1,4 +1,5 @@
 -- `name_index::mix_eights` meets its contract: the invariant: what is left to mix from i on.
+-- Assumes nothing.
 use Prim.Native.Nat.{◌-◌}
 use lib.ListN.{length}
 use Rattle.name_index.proofs.Hashing.{Mixing}

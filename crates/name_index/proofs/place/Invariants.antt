@@ -1,4 +1,5 @@
 -- `name_index::place` meets its contract: the invariant: all before lo come before the name, none from hi on.
+-- Assumes nothing.
 use Prim.Native.Nat.{◌-◌}
 use mathlib.Core.List.{◌∷◌}
 use Rattle.name_index.specs.Index.{keyed_name}

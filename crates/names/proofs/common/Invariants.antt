@@ -1,4 +1,5 @@
 -- `names::common` meets its contract: the invariant is that of `same_by_eight`, one byte at a time.
+-- Assumes nothing.
 use Rattle.names.specs.Runs.{Passed, same_at}
 use Prim.Native.Nat.{◌-◌}
 use Rattle.names.proofs.common.Given as goal

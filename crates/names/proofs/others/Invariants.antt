@@ -1,4 +1,5 @@
 -- `names::others` meets its contract: the invariant is that of `others_by_eight`, one byte at a time.
+-- Assumes nothing.
 use Rattle.names.specs.Runs.{Passed, other_at}
 use lib.ListN.{length}
 use Prim.Native.Nat.{◌-◌}

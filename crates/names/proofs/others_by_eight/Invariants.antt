@@ -1,4 +1,5 @@
 -- `names::others_by_eight` meets its contract: the invariant: the bytes before i may stand in a name.
+-- Assumes nothing.
 use Rattle.names.specs.Runs.{Passed, other_at}
 use lib.ListN.{length}
 use Prim.Native.Nat.{◌-◌}

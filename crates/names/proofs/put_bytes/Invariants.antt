@@ -1,4 +1,5 @@
 -- `names::put_bytes` meets its contract: the invariant: k bytes are copied.
+-- Assumes nothing.
 use Prim.Native.Nat.{◌-◌, ◌≤◌}
 use Rattle.names.proofs.Stores.{Copied}
 use Rattle.names.proofs.put_bytes.Given as goal

@@ -1,4 +1,5 @@
 -- `names::same_by_eight` meets its contract: the invariant: the bytes before i are the same.
+-- Assumes nothing.
 use Rattle.names.specs.Runs.{Passed, same_at}
 use Prim.Native.Nat.{◌-◌}
 use Rattle.names.proofs.same_by_eight.Given as goal

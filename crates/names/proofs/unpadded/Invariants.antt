@@ -1,4 +1,5 @@
 -- `names::unpadded` meets its contract: the invariant: no byte before i is zero.
+-- Assumes nothing.
 use Rattle.names.specs.Runs.{Passed}
 use Rattle.names.specs.Names.{non_zero}
 use lib.ListN.{length, get_or}

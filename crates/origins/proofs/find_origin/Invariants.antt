@@ -1,4 +1,5 @@
 -- `origins::find_origin` meets its contract: the origin is the first among the elements from e on.
+-- Assumes nothing.
 use Prim.Native.Nat.{◌-◌}
 use Rattle.origins.proofs.Finding.{FindLoop}
 use Rattle.origins.proofs.find_origin.Given as goal

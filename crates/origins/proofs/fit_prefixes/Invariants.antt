@@ -1,4 +1,5 @@
 -- `origins::fit_prefixes` meets its contract: the fits of the first i instances are there; the next one's prefixes are those of the instance around it, and its submodel's.
+-- Assumes nothing.
 use Prim.Native.Nat.{◌-◌}
 use Rattle.origins.proofs.Fits.{FitLoop}
 use Rattle.origins.proofs.fit_prefixes.Given as goal

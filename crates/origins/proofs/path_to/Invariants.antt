@@ -1,4 +1,5 @@
 -- `origins::path_to` meets its contract: one submodel record a step, from the last to the first.
+-- Assumes nothing.
 use Rattle.origins.proofs.Paths.{PathLoop}
 use Rattle.origins.proofs.path_to.Given as goal
 

@@ -1,4 +1,5 @@
 -- `recipe::first_unformed` meets its contract: the invariant: what is left to scan from p on.
+-- Assumes nothing.
 use Prim.Native.Nat.{◌-◌, ◌≤◌}
 use mathlib.Core.Bool.{not}
 use lib.ListN.{length}

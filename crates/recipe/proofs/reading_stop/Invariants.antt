@@ -1,4 +1,5 @@
 -- `recipe::reading_stop` meets its contract: at each test of the loop, what is left to read leads to the stop.
+-- Assumes nothing.
 use Prim.Native.Nat.{◌-◌, ◌≤◌}
 use lib.ListN.{length}
 use Rattle.recipe.proofs.Reading.{LeftToRead}

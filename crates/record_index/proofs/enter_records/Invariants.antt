@@ -1,4 +1,5 @@
 -- `record_index::enter_records` meets its contract: the invariant: the first i records are entered, and those from p on are left.
+-- Assumes nothing.
 use Rattle.record_index.proofs.Entering.{EntryLoop}
 use Prim.Native.Nat.{◌-◌}
 use lib.ListN.{length}

@@ -1,4 +1,5 @@
 -- `references::chain_end` meets its contract: after each step the rest of the chain is shorter by one.
+-- Assumes nothing.
 use mathlib.Core.Path.{◌≡◌}
 use Rattle.references.specs.Ends.{Stepping, followed}
 use Rattle.references.proofs.chain_end.Given as goal

@@ -1,4 +1,5 @@
 -- `references::first_misreferred` meets its contract: of the survivors with numbers below e the lowest at fault is known, and the ends are in the table.
+-- Assumes nothing.
 use Prim.Native.Nat.{◌-◌, ◌≤◌}
 use Rattle.references.specs.Ends.{end_of}
 use Rattle.elements.specs.Listing.{Only}

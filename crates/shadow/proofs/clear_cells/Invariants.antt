@@ -1,4 +1,5 @@
 -- `shadow::clear_cells` meets its contract: the records before p have a 0 in the cell.
+-- Assumes nothing.
 use Prim.Native.Nat.{◌-◌}
 use lib.ListN.{length}
 use Rattle.shadow.proofs.Clearing.{ClearLoop}

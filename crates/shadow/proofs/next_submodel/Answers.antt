@@ -28,50 +28,26 @@ cell-requires c =
 
 pub returns-then-cell-d : goal.returns-then-cell-d
 returns-then-cell-d c =
-    let R0 = c.requires.0 in
-    let p = c.args.p in
-    let g = c.loop-q.invariant in
-    let l = c.loop-q-test.true in
-    let cell2 = c.cell.ensures.0 in
-    search-stop (record { width = c.args.w; bytes = c.args.s.now }) R0 p g l cell2 c.if-cell-d.true
+    search-stop (record { width = c.args.w; bytes = c.args.s.now }) c.requires.0 c.args.p c.loop-q.invariant c.loop-q-test.true c.cell.ensures.0 c.if-cell-d.true
 
 pub returns-then-k-eq4 : goal.returns-then-k-eq4
 returns-then-k-eq4 c =
-    let R0 = c.requires.0 in
-    let p = c.args.p in
-    let g = c.loop-q.invariant in
-    let l = c.loop-q-test.true in
-    let cell2 = c.cell.ensures.0 in
-    let if1-left = c.if-cell-d.false in
-    search-found (record { width = c.args.w; bytes = c.args.s.now }) R0 p g l cell2 if1-left c.if-k-eq4.true
+    search-found (record { width = c.args.w; bytes = c.args.s.now }) c.requires.0 c.args.p c.loop-q.invariant c.loop-q-test.true c.cell.ensures.0 c.if-cell-d.false c.if-k-eq4.true
 
 pub record_length-q-requires : goal.record_length-q-requires
 record_length-q-requires c = omega (arith, c.requires.0.shadowed.narrow)
 
 pub overflow_add-q-in-loop-q : goal.overflow_add-q-in-loop-q
 overflow_add-q-in-loop-q c =
-    let R0 = c.requires.0 in
-    let p = c.args.p in
-    let g = c.loop-q.invariant in
-    let l = c.loop-q-test.true in
-    omega (arith, here-fits (record { width = c.args.w; bytes = c.args.s.now }) R0 p g l c.record_length-q.ensures, R0.shadowed.short)
+    omega (arith, here-fits (record { width = c.args.w; bytes = c.args.s.now }) c.requires.0 c.args.p c.loop-q.invariant c.loop-q-test.true c.record_length-q.ensures, c.requires.0.shadowed.short)
 
 pub loop-q-smaller : goal.loop-q-smaller
 loop-q-smaller c =
-    let R0 = c.requires.0 in
-    let p = c.args.p in
-    let g = c.loop-q.invariant in
-    let l = c.loop-q-test.true in
-    omega (arith, here-fits (record { width = c.args.w; bytes = c.args.s.now }) R0 p g l c.record_length-q.ensures)
+    omega (arith, here-fits (record { width = c.args.w; bytes = c.args.s.now }) c.requires.0 c.args.p c.loop-q.invariant c.loop-q-test.true c.record_length-q.ensures)
 
 pub loop-q-preserved : goal.loop-q-preserved
 loop-q-preserved c =
-    let R0 = c.requires.0 in
-    let p = c.args.p in
-    let g = c.loop-q.invariant in
-    let l = c.loop-q-test.true in
-    let if2-left = c.if-k-eq4.false in
-    search-more (record { width = c.args.w; bytes = c.args.s.now }) R0 p g l if2-left c.record_length-q.ensures
+    search-more (record { width = c.args.w; bytes = c.args.s.now }) c.requires.0 c.args.p c.loop-q.invariant c.loop-q-test.true c.if-k-eq4.false c.record_length-q.ensures
 
 pub returns : goal.returns
 returns c =

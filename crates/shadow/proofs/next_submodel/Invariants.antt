@@ -1,4 +1,5 @@
 -- `shadow::next_submodel` meets its contract: no submodel of the definition stands between the record and q.
+-- Assumes nothing.
 use Prim.Native.Nat.{◌-◌}
 use lib.ListN.{length}
 use Rattle.shadow.proofs.Submodels.{SubmodelLoop}

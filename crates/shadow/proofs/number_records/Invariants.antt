@@ -1,4 +1,5 @@
 -- `shadow::number_records` meets its contract: the records before p are numbered, and their elements counted.
+-- Assumes nothing.
 use Prim.Native.Nat.{◌-◌}
 use lib.ListN.{length}
 use Rattle.shadow.proofs.Numbering.{NumberLoop}

@@ -39,26 +39,14 @@ class_of-b-requires c =
 pub returns-then-a-b : goal.returns-then-a-b
 unfolding fault₁₀ found_of
 returns-then-a-b c =
-    let R = c.requires in
-    let g = c.loop-p.invariant in
-    let l = c.loop-p-test.true in
-    let is-owned = c.is_owned.ensures in
-    let if1-taken = c.if-is_owned.true in
-    let cell = c.cell.ensures.0 in
-    let cell2 = c.cell-then-is_owned.ensures.0 in
-    let class_of = c.class_of-a.ensures in
-    let class-of2 = c.class_of-b.ensures in
-    at-found (going-hit (this R g l) (misclassed R g l is-owned if1-taken cell cell2 class_of class-of2 ∙ ap not (ne_eqb _ _ c.if-a-b.true)))
+    at-found (going-hit (this c.requires c.loop-p.invariant c.loop-p-test.true) (misclassed c.requires c.loop-p.invariant c.loop-p-test.true c.is_owned.ensures c.if-is_owned.true c.cell.ensures.0 c.cell-then-is_owned.ensures.0 c.class_of-a.ensures c.class_of-b.ensures ∙ ap not (ne_eqb _ _ c.if-a-b.true)))
 
 pub record_length-p-requires : goal.record_length-p-requires
 record_length-p-requires c = omega (arith, c.requires.measured.linked.numbered.shadowed.narrow)
 
 pub overflow_add-p : goal.overflow_add-p
 overflow_add-p c =
-    let R = c.requires in
-    let g = c.loop-p.invariant in
-    let l = c.loop-p-test.true in
-    omega (arith, fits-here R g l c.record_length-p.ensures, R.measured.linked.numbered.shadowed.short)
+    omega (arith, fits-here c.requires c.loop-p.invariant c.loop-p-test.true c.record_length-p.ensures, c.requires.measured.linked.numbered.shadowed.short)
 
 pub loop-p-smaller-then-is_owned : goal.loop-p-smaller-then-is_owned
 loop-p-smaller-then-is_owned c =
@@ -66,17 +54,7 @@ loop-p-smaller-then-is_owned c =
 
 pub loop-p-preserved-then-is_owned : goal.loop-p-preserved-then-is_owned
 loop-p-preserved-then-is_owned c =
-    let R = c.requires in
-    let g = c.loop-p.invariant in
-    let l = c.loop-p-test.true in
-    let is-owned = c.is_owned.ensures in
-    let if1-taken = c.if-is_owned.true in
-    let cell = c.cell.ensures.0 in
-    let cell2 = c.cell-then-is_owned.ensures.0 in
-    let class_of = c.class_of-a.ensures in
-    let class-of2 = c.class_of-b.ensures in
-    let if2-left = c.if-a-b.false in
-    going_on (this R g l) (misclassed R g l is-owned if1-taken cell cell2 class_of class-of2 ∙ ap not (eq-eqb _ _ if2-left)) c.record_length-p.ensures
+    going_on (this c.requires c.loop-p.invariant c.loop-p-test.true) (misclassed c.requires c.loop-p.invariant c.loop-p-test.true c.is_owned.ensures c.if-is_owned.true c.cell.ensures.0 c.cell-then-is_owned.ensures.0 c.class_of-a.ensures c.class_of-b.ensures ∙ ap not (eq-eqb _ _ c.if-a-b.false)) c.record_length-p.ensures
 
 pub record_length-p-requires-else-is_owned : goal.record_length-p-requires-else-is_owned
 record_length-p-requires-else-is_owned c = omega (arith, c.requires.measured.linked.numbered.shadowed.narrow)

@@ -1,4 +1,5 @@
 -- `targets::first_misclassed` meets its contract: no mark before p is misclassed.
+-- Assumes nothing.
 use Prim.Native.Nat.{◌-◌}
 use lib.ListN.{length}
 use Rattle.recipe.proofs.Going.{Going}

@@ -1,4 +1,5 @@
 -- `targets::first_untargeted` meets its contract: what is kept is right, and each mark or port before p is kept.
+-- Assumes nothing.
 use Rattle.targets.proofs.Remembering.{TargetLoop}
 use Prim.Native.Nat.{◌-◌}
 use lib.ListN.{length}

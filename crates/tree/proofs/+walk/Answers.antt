@@ -58,13 +58,7 @@ shape_of-inst-then-left-j t c = c.loop-p.invariant.left.long
 pub returns-then-left-j : goal.returns-then-left-j
 unfolding most_instances most_elements
 returns-then-left-j t c =
-    let R = c.requires in
-    let g = c.loop-p.invariant in
-    let l = c.loop-p-test.true in
-    let cell3 = c.cell-m.ensures.0 in
-    let cell4 = c.cell-c.ensures.0 in
-    let if1-taken = c.if-left-j.true in
-    out-fail c.walk_answer.ensures.0 (no_room R g l cell3 cell4 if1-taken) g.left
+    out-fail c.walk_answer.ensures.0 (no_room c.requires c.loop-p.invariant c.loop-p-test.true c.cell-m.ensures.0 c.cell-c.ensures.0 c.if-left-j.true) c.loop-p.invariant.left
 
 pub overflow_sub-x-in-loop-p : goal.overflow_sub-x-in-loop-p
 overflow_sub-x-in-loop-p t c = omega (arith, c.loop-p.invariant.elems)
@@ -77,11 +71,7 @@ set_cell-requires t c =
 pub overflow_sub-left : goal.overflow_sub-left
 unfolding most_instances most_elements
 overflow_sub-left t c =
-    let R = c.requires in
-    let g = c.loop-p.invariant in
-    let l = c.loop-p-test.true in
-    let if1-left = c.if-left-j.false in
-    omega (arith, (room-here R g l if1-left).up)
+    omega (arith, (room-here c.requires c.loop-p.invariant c.loop-p-test.true c.if-left-j.false).up)
 
 pub overflow_sub-left-in-loop-p : goal.overflow_sub-left-in-loop-p
 unfolding most_depth
@@ -90,33 +80,17 @@ overflow_sub-left-in-loop-p t c = omega (arith, c.requires.flat)
 pub put_row-requires : goal.put_row-requires
 unfolding most_instances most_elements
 put_row-requires t c =
-    let R = c.requires in
-    let g = c.loop-p.invariant in
-    let l = c.loop-p-test.true in
-    let if1-left = c.if-left-j.false in
-    let r = (room-here R g l if1-left) in (row_fits R g l r, (omega (arith, r.few), (omega (arith, c.cell-m.ensures.1), (omega arith, (omega (arith, g.light), (omega (arith, sub_low R g l), omega (arith, R.few)))))))
+    let r = room-here c.requires c.loop-p.invariant c.loop-p-test.true c.if-left-j.false in (row_fits c.requires c.loop-p.invariant c.loop-p-test.true r, (omega (arith, r.few), (omega (arith, c.cell-m.ensures.1), (omega arith, (omega (arith, c.loop-p.invariant.light), (omega (arith, sub_low c.requires c.loop-p.invariant c.loop-p-test.true), omega (arith, c.requires.few)))))))
 
 pub overflow_sub-left-in-loop-p-2 : goal.overflow_sub-left-in-loop-p-2
 unfolding most_instances most_elements
 overflow_sub-left-in-loop-p-2 t c =
-    let R = c.requires in
-    let g = c.loop-p.invariant in
-    let l = c.loop-p-test.true in
-    let if1-left = c.if-left-j.false in
-    omega (arith, (room-here R g l if1-left).up)
+    omega (arith, (room-here c.requires c.loop-p.invariant c.loop-p-test.true c.if-left-j.false).up)
 
 pub walk-r-requires : goal.walk-r-requires
 unfolding most_instances most_elements most_depth
 walk-r-requires t c =
-    let R = c.requires in
-    let g = c.loop-p.invariant in
-    let l = c.loop-p-test.true in
-    let if1-left = c.if-left-j.false in
-    let cell3 = c.cell-m.ensures.0 in
-    let cell4 = c.cell-c.ensures.0 in
-    let set-cell = c.set_cell.ensures in
-    let put-row = c.put_row.ensures in
-    (omega (arith, (room-here R g l if1-left).up), call-requires R g l cell3 cell4 (room-here R g l if1-left) set-cell put-row)
+    (omega (arith, (room-here c.requires c.loop-p.invariant c.loop-p-test.true c.if-left-j.false).up), call-requires c.requires c.loop-p.invariant c.loop-p-test.true c.cell-m.ensures.0 c.cell-c.ensures.0 (room-here c.requires c.loop-p.invariant c.loop-p-test.true c.if-left-j.false) c.set_cell.ensures c.put_row.ensures)
 
 pub walk_answer-requires-then-not-ok : goal.walk_answer-requires-then-not-ok
 walk_answer-requires-then-not-ok t c = tt
@@ -124,88 +98,32 @@ walk_answer-requires-then-not-ok t c = tt
 pub shape_of-t-then-not-ok : goal.shape_of-t-then-not-ok
 unfolding most_instances most_elements most_depth
 shape_of-t-then-not-ok t c =
-    let R = c.requires in
-    let g = c.loop-p.invariant in
-    let l = c.loop-p-test.true in
-    let cell3 = c.cell-m.ensures.0 in
-    let cell4 = c.cell-c.ensures.0 in
-    let if1-left = c.if-left-j.false in
-    let set-cell = c.set_cell.ensures in
-    let put-row = c.put_row.ensures in
-    let walk = c.walk-r.ensures in
-    (keeps_on R g l cell3 cell4 (room-here R g l if1-left) set-cell put-row walk).kept.long
+    (keeps_on c.requires c.loop-p.invariant c.loop-p-test.true c.cell-m.ensures.0 c.cell-c.ensures.0 (room-here c.requires c.loop-p.invariant c.loop-p-test.true c.if-left-j.false) c.set_cell.ensures c.put_row.ensures c.walk-r.ensures).kept.long
 
 pub shape_of-inst-then-not-ok : goal.shape_of-inst-then-not-ok
 unfolding most_instances most_elements most_depth
 shape_of-inst-then-not-ok t c =
-    let R = c.requires in
-    let g = c.loop-p.invariant in
-    let l = c.loop-p-test.true in
-    let cell3 = c.cell-m.ensures.0 in
-    let cell4 = c.cell-c.ensures.0 in
-    let if1-left = c.if-left-j.false in
-    let set-cell = c.set_cell.ensures in
-    let put-row = c.put_row.ensures in
-    let walk = c.walk-r.ensures in
-    (keeps_on R g l cell3 cell4 (room-here R g l if1-left) set-cell put-row walk).long
+    (keeps_on c.requires c.loop-p.invariant c.loop-p-test.true c.cell-m.ensures.0 c.cell-c.ensures.0 (room-here c.requires c.loop-p.invariant c.loop-p-test.true c.if-left-j.false) c.set_cell.ensures c.put_row.ensures c.walk-r.ensures).long
 
 pub returns-then-not-ok : goal.returns-then-not-ok
 unfolding most_instances most_elements most_depth
 returns-then-not-ok t c =
-    let R = c.requires in
-    let g = c.loop-p.invariant in
-    let l = c.loop-p-test.true in
-    let cell3 = c.cell-m.ensures.0 in
-    let cell4 = c.cell-c.ensures.0 in
-    let if1-left = c.if-left-j.false in
-    let set-cell = c.set_cell.ensures in
-    let put-row = c.put_row.ensures in
-    let walk = c.walk-r.ensures in
-    let if2-taken = ap not c.if-not-ok.true in
-    turn-fails R g l cell3 cell4 (room-here R g l if1-left) set-cell put-row walk if2-taken c.walk_answer-then-not-ok.ensures.0
+    turn-fails c.requires c.loop-p.invariant c.loop-p-test.true c.cell-m.ensures.0 c.cell-c.ensures.0 (room-here c.requires c.loop-p.invariant c.loop-p-test.true c.if-left-j.false) c.set_cell.ensures c.put_row.ensures c.walk-r.ensures (ap not c.if-not-ok.true) c.walk_answer-then-not-ok.ensures.0
 
 pub next_submodel-p-requires-in-loop-p : goal.next_submodel-p-requires-in-loop-p
 unfolding most_instances most_elements most_depth
 next_submodel-p-requires-in-loop-p t c =
-    let R = c.requires in
-    let g = c.loop-p.invariant in
-    let l = c.loop-p-test.true in
-    let cell3 = c.cell-m.ensures.0 in
-    let cell4 = c.cell-c.ensures.0 in
-    let if1-left = c.if-left-j.false in
-    let set-cell = c.set_cell.ensures in
-    let put-row = c.put_row.ensures in
-    let walk = c.walk-r.ensures in
-    ((after-linked R g l cell3 cell4 (room-here R g l if1-left) set-cell put-row walk).numbered, sub-place R g l)
+    ((after-linked c.requires c.loop-p.invariant c.loop-p-test.true c.cell-m.ensures.0 c.cell-c.ensures.0 (room-here c.requires c.loop-p.invariant c.loop-p-test.true c.if-left-j.false) c.set_cell.ensures c.put_row.ensures c.walk-r.ensures).numbered, sub-place c.requires c.loop-p.invariant c.loop-p-test.true)
 
 pub loop-p-smaller : goal.loop-p-smaller
 unfolding most_instances most_elements most_depth
 loop-p-smaller t c =
-    let R = c.requires in
-    let g = c.loop-p.invariant in
-    let l = c.loop-p-test.true in
-    let cell3 = c.cell-m.ensures.0 in
-    let cell4 = c.cell-c.ensures.0 in
-    let if1-left = c.if-left-j.false in
-    let set-cell = c.set_cell.ensures in
-    let put-row = c.put_row.ensures in
-    let walk = c.walk-r.ensures in
-    omega (arith, further R g l cell3 cell4 (room-here R g l if1-left) set-cell put-row walk c.next_submodel-p-in-loop-p.ensures, l)
+    omega (arith, further c.requires c.loop-p.invariant c.loop-p-test.true c.cell-m.ensures.0 c.cell-c.ensures.0 (room-here c.requires c.loop-p.invariant c.loop-p-test.true c.if-left-j.false) c.set_cell.ensures c.put_row.ensures c.walk-r.ensures c.next_submodel-p-in-loop-p.ensures, c.loop-p-test.true)
 
 pub loop-p-preserved : goal.loop-p-preserved
 unfolding most_instances most_elements most_depth
 loop-p-preserved t c =
-    let R = c.requires in
-    let g = c.loop-p.invariant in
-    let l = c.loop-p-test.true in
-    let cell3 = c.cell-m.ensures.0 in
-    let cell4 = c.cell-c.ensures.0 in
-    let if1-left = c.if-left-j.false in
-    let set-cell = c.set_cell.ensures in
-    let put-row = c.put_row.ensures in
-    let walk = c.walk-r.ensures in
-    let if2-left = ap not c.if-not-ok.false in
-    turn-goes R g l cell3 cell4 (room-here R g l if1-left) set-cell put-row walk if2-left c.next_submodel-p-in-loop-p.ensures
+    turn-goes c.requires c.loop-p.invariant c.loop-p-test.true c.cell-m.ensures.0 c.cell-c.ensures.0 (room-here c.requires c.loop-p.invariant c.loop-p-test.true c.if-left-j.false) c.set_cell.ensures c.put_row.ensures c.walk-r.ensures (ap not c.if-not-ok.false) c.next_submodel-p-in-loop-p.ensures
 
 pub walk_answer-requires-2 : goal.walk_answer-requires-2
 walk_answer-requires-2 t c = tt

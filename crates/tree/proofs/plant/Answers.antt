@@ -18,57 +18,20 @@ put_row-requires c = (omega (arith, c.requires.1.1), (omega arith, (omega arith,
 
 pub walk-r-requires : goal.walk-r-requires
 walk-r-requires c =
-    let R0 = c.requires.0 in
-    let R10 = c.requires.1.0 in
-    let inst = c.args.inst.now in
-    let R11 = c.requires.1.1 in
-    let put-row = c.put_row.ensures in
-    let cell = c.cell.ensures.0 in
-    let if1-left = c.if-cell-gt-MOST_ELEMENTS.false in
-    main-requires R0 R10 inst R11 put-row cell if1-left
+    main-requires c.requires.0 c.requires.1.0 c.args.inst.now c.requires.1.1 c.put_row.ensures c.cell.ensures.0 c.if-cell-gt-MOST_ELEMENTS.false
 
 pub returns-then-not-grown : goal.returns-then-not-grown
 returns-then-not-grown c =
-    let R0 = c.requires.0 in
-    let R10 = c.requires.1.0 in
-    let inst = c.args.inst.now in
-    let R11 = c.requires.1.1 in
-    let put-row = c.put_row.ensures in
-    let walk = c.walk-r.ensures in
-    let if2-taken = ap not c.if-not-grown.true in
-    walk-fails R0 R10 inst R11 put-row walk if2-taken c.plant_answer-then-not-grown.ensures.0
+    walk-fails c.requires.0 c.requires.1.0 c.args.inst.now c.requires.1.1 c.put_row.ensures c.walk-r.ensures (ap not c.if-not-grown.true) c.plant_answer-then-not-grown.ensures.0
 
 pub clear_cells-requires : goal.clear_cells-requires
 clear_cells-requires c =
-    let R0 = c.requires.0 in
-    let R10 = c.requires.1.0 in
-    let inst = c.args.inst.now in
-    let R11 = c.requires.1.1 in
-    let put-row = c.put_row.ensures in
-    let walk = c.walk-r.ensures in
-    (walk-shadowed R0 R10 inst R11 put-row walk, omega arith)
+    (walk-shadowed c.requires.0 c.requires.1.0 c.args.inst.now c.requires.1.1 c.put_row.ensures c.walk-r.ensures, omega arith)
 
 pub thread_instances-requires : goal.thread_instances-requires
 thread_instances-requires c =
-    let R0 = c.requires.0 in
-    let R10 = c.requires.1.0 in
-    let inst = c.args.inst.now in
-    let R11 = c.requires.1.1 in
-    let put-row = c.put_row.ensures in
-    let walk = c.walk-r.ensures in
-    let if2-left = ap not c.if-not-grown.false in
-    let clear-cells = c.clear_cells.ensures in
-    main-threads R0 R10 inst R11 put-row walk if2-left clear-cells
+    main-threads c.requires.0 c.requires.1.0 c.args.inst.now c.requires.1.1 c.put_row.ensures c.walk-r.ensures (ap not c.if-not-grown.false) c.clear_cells.ensures
 
 pub returns : goal.returns
 returns c =
-    let R0 = c.requires.0 in
-    let R10 = c.requires.1.0 in
-    let inst = c.args.inst.now in
-    let R11 = c.requires.1.1 in
-    let put-row = c.put_row.ensures in
-    let walk = c.walk-r.ensures in
-    let if2-left = ap not c.if-not-grown.false in
-    let clear-cells = c.clear_cells.ensures in
-    let thread-instances = c.thread_instances.ensures in
-    main-planted R0 R10 inst R11 put-row walk if2-left clear-cells thread-instances c.plant_answer-2.ensures.0 c.plant_answer-2.ensures.1.0 c.plant_answer-2.ensures.1.1
+    main-planted c.requires.0 c.requires.1.0 c.args.inst.now c.requires.1.1 c.put_row.ensures c.walk-r.ensures (ap not c.if-not-grown.false) c.clear_cells.ensures c.thread_instances.ensures c.plant_answer-2.ensures.0 c.plant_answer-2.ensures.1.0 c.plant_answer-2.ensures.1.1

@@ -29,39 +29,22 @@ overflow_mul-i-in-loop-i c =
 
 pub set_cell-requires : goal.set_cell-requires
 set_cell-requires c =
-    let R = c.requires in
-    let g = c.loop-i.invariant in
-    let l = c.loop-i-test.true in
-    (omega (arith, row-room' R (c.loop-i.i - 1) g (omega (arith, l))), omega (arith, c.cell-next.ensures.1, low R (c.loop-i.i - 1) g (omega (arith, l))))
+    (omega (arith, row-room' c.requires (c.loop-i.i - 1) c.loop-i.invariant (omega (arith, c.loop-i-test.true))), omega (arith, c.cell-next.ensures.1, low c.requires (c.loop-i.i - 1) c.loop-i.invariant (omega (arith, c.loop-i-test.true))))
 
 pub overflow_add-i : goal.overflow_add-i
 overflow_add-i c =
-    let R = c.requires in
-    let g = c.loop-i.invariant in
-    let l = c.loop-i-test.true in
-    omega (arith, low R (c.loop-i.i - 1) g (omega (arith, l)))
+    omega (arith, low c.requires (c.loop-i.i - 1) c.loop-i.invariant (omega (arith, c.loop-i-test.true)))
 
 pub set_cell-requires-in-loop-i : goal.set_cell-requires-in-loop-i
 set_cell-requires-in-loop-i c =
-    let R = c.requires in
-    let g = c.loop-i.invariant in
-    let l = c.loop-i-test.true in
-    let cell = c.cell-d.ensures.0 in
-    (first-room R (c.loop-i.i - 1) g (omega (arith, l)) cell, omega (arith, low R (c.loop-i.i - 1) g (omega (arith, l))))
+    (first-room c.requires (c.loop-i.i - 1) c.loop-i.invariant (omega (arith, c.loop-i-test.true)) c.cell-d.ensures.0, omega (arith, low c.requires (c.loop-i.i - 1) c.loop-i.invariant (omega (arith, c.loop-i-test.true))))
 
 pub loop-i-smaller : goal.loop-i-smaller
 loop-i-smaller c = omega (arith, c.loop-i-test.true)
 
 pub loop-i-preserved : goal.loop-i-preserved
 loop-i-preserved c =
-    let R = c.requires in
-    let g = c.loop-i.invariant in
-    let l = c.loop-i-test.true in
-    let cell = c.cell-d.ensures.0 in
-    let cell2 = c.cell-next.ensures.0 in
-    let set-cell = c.set_cell.ensures in
-    let set-cell2 = c.set_cell-in-loop-i.ensures in
-    thread-one R (c.loop-i.i - 1) g (omega (arith, l)) cell cell2 set-cell set-cell2
+    thread-one c.requires (c.loop-i.i - 1) c.loop-i.invariant (omega (arith, c.loop-i-test.true)) c.cell-d.ensures.0 c.cell-next.ensures.0 c.set_cell.ensures c.set_cell-in-loop-i.ensures
 
 pub shape_of-t : goal.shape_of-t
 shape_of-t c = c.loop-i.invariant.kept.long

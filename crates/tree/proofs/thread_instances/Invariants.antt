@@ -1,4 +1,5 @@
 -- `tree::thread_instances` meets its contract: the instances from i on are threaded.
+-- Assumes nothing.
 use Rattle.tree.proofs.Threads.{ThreadLoop}
 use Rattle.tree.proofs.thread_instances.Given as goal
 
