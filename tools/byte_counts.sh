@@ -19,13 +19,12 @@ lines() {
 
 lines 1 '^pub fn count_underscores\(.*\) -> u8$'
 lines 1 '^fn run_behind\(.*\) -> u8$'
-lines 1 '^fn larger\(a: u8, b: u8\) -> u8$'
 lines 1 '^fn raise_count\(.*, u: u8\) -> u8$'
 lines 1 '^pub fn fewest_underscores\(.*\) -> u8$'
 lines 1 '^fn put_underscores\(.*, u: u8\) -> usize$'
 # The only conversions: the count's, and that of a row's length.
 lines 2 ' as [ui](8|16|32|64|128|size)'
-lines 1 '^    let n = u as usize;$'
+lines 1 '^    let end = at \+ u as usize;$'
 lines 1 '^        len\[i\] = r as u16;$'
 echo "$passed passed, $failed failed"
 [ "$failed" -eq 0 ]

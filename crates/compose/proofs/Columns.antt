@@ -1,9 +1,9 @@
 -- What the passes of `judge_marks` hand on to each other: the columns of the elements as they are filled, and in the end `Composed`.
 -- Assumes nothing.
+use Rattle.std.specs.Prelude.{None}
 use Prim.Native.Nat.{◌*◌, ◌≤◌, ℕ}
 use lib.ListN.{length}
 use mathlib.Core.List.{List}
-use mathlib.Core.Option.{none}
 use mathlib.Core.Path.{◌≡◌}
 use native.Mathlib.Omega.{arith}
 use Rattle.recipe.specs.Records.{Recipe}
@@ -55,7 +55,7 @@ module _ {s : Recipe} {t inst : List ℕ} {n : ℕ} (T : Targeted s t inst n) wh
           gones = column-over s p 2 (omega arith) (λ z. omega arith) gones-stepped;
         }
 
-        pub composed : (el₄ : List ℕ) {elems : ℕ} → fault₉ s ≡ none → fault₁₀ s ≡ none → fault₁₁ s ≡ none → fault₁₂ s ≡ none → fault₂₀ s ≡ none → elems ≡ length (tree_elements s) → Nexts s el₃ → Ends s el₄ → Only 4 el₃ el₄
+        pub composed : (el₄ : List ℕ) {elems : ℕ} → fault₉ s ≡ None → fault₁₀ s ≡ None → fault₁₁ s ≡ None → fault₁₂ s ≡ None → fault₂₀ s ≡ None → elems ≡ length (tree_elements s) → Nexts s el₃ → Ends s el₄ → Only 4 el₃ el₄
             → Composed s t inst el₄ n elems
         composed el₄ h₉ h₁₀ h₁₁ h₁₂ h₂₀ c x e p = record {
           targeted = T;

@@ -1,49 +1,48 @@
--- What is known of a recipe where rows 1 to 3 do not apply, and rows 2 and 7 by what the code answers.
+-- What is known of a recipe where rows 1 to 3 do not apply, and row 7 by what planting answers.
 -- Assumes nothing.
-use mathlib.Core.Path.{◌≡◌, sym}
-use mathlib.Core.Bool.{true, false, ◌||◌}
-use mathlib.Core.Option.{none, some}
-use mathlib.Core.List.{List}
+use Rattle.std.specs.Prelude.{None, Option, Some, Result, Ok, Err, is_some}
+use Rattle.std.specs.Option.{ok_or}
+use mathlib.Core.Path.{◌≡◌, ap, sym, ◌∙◌}
+use mathlib.Core.Bool.{true, false, not, not-not, ◌||◌}
+use mathlib.Core.List.{List, ◌∷◌}
 use Prim.Native.Nat.{ℕ, ◌≤◌, ◌<◌}
 use native.Mathlib.Omega.{arith}
 use lib.ListN.{length}
 use lib.Dec.{eqb, ltb}
 use borrow.Author.Tests.{eqb-false, ltb-false, lt-ltb, le-ltb}
-use Rattle.names.specs.Scans.{found_of}
-use Rattle.names.specs.declared.Found.TheVariants.{At, Nothing}
 use Rattle.names.proofs.Tests.{or-none-left, or-none-right}
-use Rattle.names.proofs.Judging.{row-none}
-use Rattle.names.proofs.Scans.{at-found, nothing-found}
+use Rattle.names.specs.declared.Reason.TheVariants.{TooLarge}
+use Rattle.names.specs.declared.Refusal.{Refusal}
+use Rattle.names.specs.Judging.{Row, judged, refusal_at, row}
+use Rattle.names.proofs.Judging.{row-applies, row-none}
 use Rattle.recipe.specs.Records.{Recipe, stop}
 use Rattle.recipe.specs.Reading.{at_start, most_bytes, fault₁, fault₂, form_rows}
 use Rattle.recipe.proofs.Rows.{not-at-start}
 use Rattle.recipe.proofs.Reading.{stop-within, read_through}
 use Rattle.shadow.specs.Shadow.{Shadowed}
+use Rattle.tree.specs.declared.Size.{Size}
 use Rattle.tree.specs.Faults.{is_too_large, fault₇}
 use Rattle.compose.specs.Rooms.{NamesRequires}
 
+the-err : {T E : Type 0} {a b : E} → ◌≡◌ {A = Result T E} (Err a) (Err b) → a ≡ b
+the-err z = cc
+
+the-ok : {T E : Type 0} {a b : T} → ◌≡◌ {A = Result T E} (Ok a) (Ok b) → a ≡ b
+the-ok z = cc
+
+not_err : {T E X : Type 0} {a : T} {e : E} → ◌≡◌ {A = Result T E} (Ok a) (Err e) → X
+not_err z = absurd (let k : ◌≡◌ {A = ℕ} 0 1 = cc in omega arith)
+
 module _ (s : Recipe) where
-  -- ---- row 2, by where reading stops
-  pub cut-fault : (p : ℕ) → p ≡ stop s → p < length s.bytes → fault₂ s ≡ some p
-  unfolding fault₂
-  cut-fault p q l = let h : stop s < length s.bytes = omega arith in rw (lt-ltb (stop s) (length s.bytes) h, q)
-
-  pub whole-fault : (p : ℕ) → p ≡ stop s → length s.bytes ≤ p → fault₂ s ≡ none
-  unfolding fault₂
-  whole-fault p q l = let h : length s.bytes ≤ stop s = omega arith in rw (le-ltb (stop s) (length s.bytes) h)
-
-  pub whole-stop : (p : ℕ) → p ≡ stop s → length s.bytes ≤ p → stop s ≡ length s.bytes
-  whole-stop p q l = omega (arith, stop-within s)
-
   -- ---- row 1 does not apply: the recipe is short, and not empty
-  length-passes : fault₁ s ≡ none → eqb (length s.bytes) 0 || ltb 16384 (length s.bytes) ≡ false
+  length-passes : fault₁ s ≡ None → eqb (length s.bytes) 0 || ltb 16384 (length s.bytes) ≡ false
   unfolding fault₁ at_start most_bytes
   length-passes h = not-at-start _ h
 
-  short : fault₁ s ≡ none → length s.bytes ≤ 16384
+  short : fault₁ s ≡ None → length s.bytes ≤ 16384
   short h = ltb-false 16384 (length s.bytes) (or-none-right (eqb (length s.bytes) 0) (ltb 16384 (length s.bytes)) (length-passes h))
 
-  pub some_bytes : fault₁ s ≡ none → 0 < length s.bytes
+  pub some_bytes : fault₁ s ≡ None → 0 < length s.bytes
   some_bytes h = omega (arith, eqb-false (length s.bytes) 0 (or-none-left (eqb (length s.bytes) 0) (ltb 16384 (length s.bytes)) (length-passes h)))
 
   -- the table is its shadow
@@ -58,11 +57,19 @@ module _ (s : Recipe) where
         room = omega (arith, n.cells);
       }
 
-  -- ---- row 7, by the walk's answer
-  pub large : true ≡ is_too_large s → At 0 ≡ found_of (fault₇ s)
+  -- ---- row 7, by what planting answers
+  pub large : is_too_large s ≡ true → fault₇ s ≡ Some 0
   unfolding fault₇ at_start
-  large e = at-found (rw (sym e))
+  large e = rw e
 
-  pub small : false ≡ is_too_large s → Nothing ≡ found_of (fault₇ s)
+  pub small : is_too_large s ≡ false → fault₇ s ≡ None
   unfolding fault₇ at_start
-  small e = nothing-found (rw (sym e))
+  small e = rw e
+
+  pub not-planted : (r : Option Size) {e : Refusal} (rs : List Row) → is_some r ≡ not (is_too_large s) → ok_or r (refusal_at TooLarge 0) ≡ Err e → Some e ≡ judged (row TooLarge (fault₇ s) ∷ rs)
+  not-planted None rs h z = ap Some (sym (the-err z)) ∙ sym (row-applies TooLarge rs (large (sym (not-not (is_too_large s)) ∙ ap not (sym h))))
+  not-planted (Some n) rs h z = not_err z
+
+  pub is-planted : (r : Option Size) {n : Size} → is_some r ≡ not (is_too_large s) → ok_or r (refusal_at TooLarge 0) ≡ Ok n → (r ≡ Some n) × (fault₇ s ≡ None)
+  is-planted None h z = not_err (sym z)
+  is-planted (Some n) h z = (ap Some (the-ok z), small (sym (not-not (is_too_large s)) ∙ ap not (sym h)))

@@ -1,7 +1,6 @@
 -- 01's "Verdicts", and 02's: the order of judging of the rows 1 to 12, 19 and 20, which say nothing of an output.
 -- Assumes nothing.
-use Rattle.std.proofs.Math.Option.{Option}
-use Rattle.std.specs.Prelude.{List, ◌++◌}
+use Rattle.std.specs.Prelude.{List, ◌++◌, Option}
 use Rattle.names.specs.declared.Refusal.{Refusal}
 use Rattle.names.specs.Judging.{Row, judged, NoneApplies}
 use Rattle.recipe.specs.Records.{Recipe}

@@ -1,10 +1,10 @@
 -- The elements of the tree by their numbers: which element has the number e, and what its row says of it.
 -- Assumes nothing.
+use Rattle.std.specs.Prelude.{None}
 use Prim.Native.Nat.{◌*◌, ◌+◌, ◌<◌, ◌≤◌, ℕ}
 use native.Mathlib.Omega.{arith}
 use lib.ListN.{get_or, length}
 use mathlib.Core.List.{List, []}
-use mathlib.Core.Option.{none}
 use mathlib.Core.Path.{◌≡◌, ◌∙◌, ap, sym}
 use Rattle.names.specs.Lists.{In}
 use Rattle.names.proofs.Lists.{get_or-in}
@@ -18,7 +18,7 @@ use Rattle.tree.proofs.Numbering.{number-inj}
 use Rattle.elements.proofs.Elements.{element-number as number_at, number-low}
 use Rattle.composer.specs.Writing.{element_at}
 
-module _ (s : Recipe) (h₇ : fault₇ s ≡ none) where
+module _ (s : Recipe) (h₇ : fault₇ s ≡ None) where
   pub element-in : (e : ℕ) → e < length (tree_elements s) → In (element_at s e) (tree_elements s)
   unfolding element_at
   element-in e l = get_or-in (tree_elements s) e (node [] 0) l
@@ -33,7 +33,7 @@ module _ (s : Recipe) (h₇ : fault₇ s ≡ none) where
       (l, number-inj s h₇ (element_at s (number s x)) x (element-in (number s x) l) i (element-number (number s x) l))
 
 -- the row of the element of number k
-module _ {s : Recipe} {el : List ℕ} (h₇ : fault₇ s ≡ none) (R : ElementRows s el) (k : ℕ) (l : k < length (tree_elements s)) where
+module _ {s : Recipe} {el : List ℕ} (h₇ : fault₇ s ≡ None) (R : ElementRows s el) (k : ℕ) (l : k < length (tree_elements s)) where
   pub at-number : (j : ℕ) → get_or el (5 * number s (element_at s k) + j) 0 ≡ get_or el (5 * k + j) 0
   at-number j = ap (λ (n : ℕ). get_or el (5 * n + j) 0) (element-number s h₇ k l)
 

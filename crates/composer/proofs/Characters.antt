@@ -1,9 +1,9 @@
 -- A flat name is a name, so its padded field reads as one, and two fields that are the same have one flat name.
 -- Assumes nothing.
+use Rattle.std.specs.Prelude.{None, Option, Some}
 use mathlib.Core.Path.{◌≡◌, refl, sym, ap, ◌∙◌}
 use Prim.Native.Nat.{ℕ}
 use mathlib.Core.Bool.{true, false}
-use mathlib.Core.Option.{Option, none, some}
 use mathlib.Core.List.{List, [], ◌∷◌, ◌++◌, map, append_assoc}
 use lib.ListN.{replicate}
 use Rattle.names.specs.Lists.{In, joined}
@@ -28,7 +28,7 @@ with-characters : (n : List ℕ) (k : ℕ) → are_name_characters n ≡ true �
 unfolding with_underscores
 with-characters n k e = characters-append n (replicate k underscore) e (every-replicate is_other k underscore underscore-other)
 
-module _ (s : Recipe) (h₃ : fault₃ s ≡ none) where
+module _ (s : Recipe) (h₃ : fault₃ s ≡ None) where
   prefix-characters : (d m : ℕ) → In m (submodels s d) → are_name_characters (prefix s m) ≡ true
   unfolding prefix
   prefix-characters d m i = with-characters _ _ (submodel-characters s h₃ d m i)
@@ -47,25 +47,25 @@ module _ (s : Recipe) (h₃ : fault₃ s ≡ none) where
       walk-characters main x.path x.place (walk_of s main x.path x.place (instance-path s x.path a.0) a.1)
 
   -- its field is a name, and tells it
-  pub field-name : (x : Node) → In x (tree_elements s) → is_name (flat_field s (some x)) ≡ true
+  pub field-name : (x : Node) → In x (tree_elements s) → is_name (flat_field s (Some x)) ≡ true
   unfolding flat_field
   field-name x i = name-padded (flat_width s.width) (flat_name s x) (flat-name-characters x i)
 
-  pub field-tells : (x y : Node) → In x (tree_elements s) → In y (tree_elements s) → flat_field s (some x) ≡ flat_field s (some y) → flat_name s x ≡ flat_name s y
+  pub field-tells : (x y : Node) → In x (tree_elements s) → In y (tree_elements s) → flat_field s (Some x) ≡ flat_field s (Some y) → flat_name s x ≡ flat_name s y
   unfolding flat_field
   field-tells x y i j e =
       sym (text-padded (flat_width s.width) (flat_name s x) (flat-name-characters x i))
       ∙ (ap text e ∙ text-padded (flat_width s.width) (flat_name s y) (flat-name-characters y j))
 
   -- a field is blank where there is no element
-  pub field-blank : is_blank (flat_field s none) ≡ true
+  pub field-blank : is_blank (flat_field s None) ≡ true
   unfolding flat_field
   field-blank = blank-padded (flat_width s.width)
 
-  pub field-filled : (x : Node) → In x (tree_elements s) → is_blank (flat_field s (some x)) ≡ false
-  field-filled x i = name-not-blank (flat_field s (some x)) (field-name x i)
+  pub field-filled : (x : Node) → In x (tree_elements s) → is_blank (flat_field s (Some x)) ≡ false
+  field-filled x i = name-not-blank (flat_field s (Some x)) (field-name x i)
 
-  pub field-reads : (o : Option Node) → ((x : Node) → o ≡ some x → In x (tree_elements s)) → is_name_or_blank (flat_field s o) ≡ true
+  pub field-reads : (o : Option Node) → ((x : Node) → o ≡ Some x → In x (tree_elements s)) → is_name_or_blank (flat_field s o) ≡ true
   unfolding is_name_or_blank
-  field-reads none h = or_right (is_name (flat_field s none)) _ field-blank
-  field-reads (some x) h = or_left (is_name (flat_field s (some x))) _ (field-name x (h x refl))
+  field-reads None h = or_right (is_name (flat_field s None)) _ field-blank
+  field-reads (Some x) h = or_left (is_name (flat_field s (Some x))) _ (field-name x (h x refl))

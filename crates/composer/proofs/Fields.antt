@@ -1,13 +1,12 @@
 -- The fields of a flat record, from the rows: what is written for an element, its parent, and the end of the chain from its reference.
 -- Assumes nothing.
+use Rattle.std.specs.Prelude.{None, Option, Some, unwrap_or}
 use Prim.Native.Nat.{◌*◌, ◌+◌, ◌-◌, ◌<◌, ◌≤◌, ℕ}
 use borrow.Author.Tests.{eq-eqb, ne_eqb}
 use lib.ListN.{get_or, length, length-append, replicate, set}
 use lib.Seq.{sets}
 use mathlib.Core.Bool.{false, not}
 use mathlib.Core.List.{List, [], ◌++◌, ◌∷◌}
-use mathlib.Core.Option
-use mathlib.Core.Option.{Option, none, some}
 use mathlib.Core.Path.{◌∙◌, ◌≡◌, ap, refl, sym}
 use native.Mathlib.Numerals.{add-one}
 use native.Mathlib.Omega.{arith}
@@ -38,11 +37,11 @@ use Rattle.composer.proofs.Lengths.{name-field, parent-field, reference-end-in}
 
 -- ---- a field by its site
 module _ (s : Recipe) (i m : ℕ) where
-  pub no-site : m ≡ 0 → site_of s i m ≡ none
+  pub no-site : m ≡ 0 → site_of s i m ≡ None
   unfolding site_of
   no-site z = rw (eq-eqb m 0 z)
 
-  pub a-site : (m ≡ 0 → ⊥) → site_of s i m ≡ some (node (get_or (instances s) i []) m)
+  pub a-site : (m ≡ 0 → ⊥) → site_of s i m ≡ Some (node (get_or (instances s) i []) m)
   unfolding site_of
   a-site z = rw (ne_eqb m 0 z)
 
@@ -70,7 +69,7 @@ four-stores out A B C at k f a b =
     ∙ rw (add-one at) refl
 
 -- ---- an element by its row
-module _ {s : Recipe} {el : List ℕ} (h₇ : fault₇ s ≡ none) (R : ElementRows s el) where
+module _ {s : Recipe} {el : List ℕ} (h₇ : fault₇ s ≡ None) (R : ElementRows s el) where
   -- the element of number k
   module _ (k : ℕ) (l : k < length (tree_elements s)) where
     some-record : {q : ℕ} → q ≡ get_or el (5 * k + 0) 0 → q ≡ 0 → ⊥
@@ -79,8 +78,8 @@ module _ {s : Recipe} {el : List ℕ} (h₇ : fault₇ s ≡ none) (R : ElementR
         not-zero s _ (element_at s k).place h.inside (sym (by.record_is h₇ R k l r) ∙ z)
 
     -- its own site
-    pub site-of : {i q : ℕ} → i ≡ get_or el (5 * k + 1) 0 → q ≡ get_or el (5 * k + 0) 0 → site_of s i q ≡ some (element_at s k)
-    site-of {i} {q} h r = a-site s i q (some-record r) ∙ ap some (by.site-is h₇ R k l h r)
+    pub site-of : {i q : ℕ} → i ≡ get_or el (5 * k + 1) 0 → q ≡ get_or el (5 * k + 0) 0 → site_of s i q ≡ Some (element_at s k)
+    site-of {i} {q} h r = a-site s i q (some-record r) ∙ ap Some (by.site-is h₇ R k l h r)
 
     pub site-tree : {i q : ℕ} → i ≡ get_or el (5 * k + 1) 0 → q ≡ get_or el (5 * k + 0) 0 → SiteInTree s i q
     site-tree h r z = (by.instance-low h₇ R k l h, rw (by.site-is h₇ R k l h r) (by.element-in s h₇ k l))
@@ -97,7 +96,7 @@ module _ {s : Recipe} {el : List ℕ} (h₇ : fault₇ s ≡ none) (R : ElementR
       class-is = ap (λ (j : ℕ). get_or s.bytes (j + 1 + s.width) 0) (by.record_is h₇ R k l r)
 
   -- none, or an element of the tree: z is one more than its number, or 0
-  module _ {o : Option Node} (inside : (y : Node) → o ≡ some y → In y (tree_elements s)) {z : ℕ} (blank : o ≡ none → z ≡ 0) (filled : (y : Node) → o ≡ some y → z ≡ number s y + 1) where
+  module _ {o : Option Node} (inside : (y : Node) → o ≡ Some y → In y (tree_elements s)) {z : ℕ} (blank : o ≡ None → z ≡ 0) (filled : (y : Node) → o ≡ Some y → z ≡ number s y + 1) where
     pub end-room : 5 * z ≤ length el
     end-room =
         by-option o
@@ -121,7 +120,7 @@ module _ {s : Recipe} {el : List ℕ} (h₇ : fault₇ s ≡ none) (R : ElementR
           (λ y n.
           let is = by.element-is s h₇ y (inside y n) in
           let r = row_at (number s y) (filled y n) in
-          site-of (number s y) is.0 r.0 r.1 ∙ ap some is.1 ∙ sym n)
+          site-of (number s y) is.0 r.0 r.1 ∙ ap Some is.1 ∙ sym n)
 
       pub end-tree : SiteInTree s i m
       end-tree =
@@ -134,14 +133,14 @@ module _ {s : Recipe} {el : List ℕ} (h₇ : fault₇ s ≡ none) (R : ElementR
 
 -- ---- the element of number e, a survivor
 module _ {s : Recipe} {t el pre len : List ℕ} {elems : ℕ} (W : WriterRequires s t el pre len elems) where
-  h₇ : fault₇ s ≡ none
+  h₇ : fault₇ s ≡ None
   h₇ = W.fates.row₇
 
   k-tree : (k : ℕ) → k < length (tree_elements s) → In (element_at s k) (tree_elements s)
   k-tree k l = by.element-in s h₇ k l
 
   -- its own site
-  pub own-site : (k : ℕ) → k < length (tree_elements s) → {i q : ℕ} → i ≡ get_or el (5 * k + 1) 0 → q ≡ get_or el (5 * k + 0) 0 → site_of s i q ≡ some (element_at s k)
+  pub own-site : (k : ℕ) → k < length (tree_elements s) → {i q : ℕ} → i ≡ get_or el (5 * k + 1) 0 → q ≡ get_or el (5 * k + 0) 0 → site_of s i q ≡ Some (element_at s k)
   own-site k l h r = site-of h₇ W.elements k l h r
 
   pub own-tree : (k : ℕ) → k < length (tree_elements s) → {i q : ℕ} → i ≡ get_or el (5 * k + 1) 0 → q ≡ get_or el (5 * k + 0) 0 → SiteInTree s i q
@@ -158,7 +157,7 @@ module _ {s : Recipe} {t el pre len : List ℕ} {elems : ℕ} (W : WriterRequire
 
       -- its parent
       module _ {i m : ℕ} (hi : i ≡ get_or el (5 * e + 1) 0) (hm : m ≡ get_or t (q + 3) 0) where
-        parent-link : m ≡ Option.get_or (element_in s x.place (parent_field s x.place)) 0
+        parent-link : m ≡ unwrap_or (element_in s x.place (parent_field s x.place)) 0
         parent-link =
             let h = element-held s x (k-tree e le) in
             hm ∙ ap (λ (j : ℕ). get_or t (j + 3) 0) (by.record_is h₇ W.elements e le hq) ∙ W.parents x.place h.placed h.passes
@@ -172,7 +171,7 @@ module _ {s : Recipe} {t el pre len : List ℕ} {elems : ℕ} (W : WriterRequire
             let is : m ≡ k = parent-link ∙ rw n in
             let in-k = (in-elements s (holder s x.place) k (element-in s x.place (parent_field s x.place) k n).2).inside in
             a-site s i m (λ z. not-zero s (holder s x.place) k in-k (sym is ∙ z))
-            ∙ rw (n, is) (ap (λ (p : List ℕ). some (node p k)) (by.path-is h₇ W.elements e le hi)))
+            ∙ rw (n, is) (ap (λ (p : List ℕ). Some (node p k)) (by.path-is h₇ W.elements e le hi)))
 
         pub parent-tree : SiteInTree s i m
         parent-tree z = (by.instance-low h₇ W.elements e le hi, parent_in s x (node (get_or (instances s) i []) m) (k-tree e le) (sym parent-site ∙ a-site s i m z))
@@ -187,24 +186,24 @@ module _ {s : Recipe} {t el pre len : List ℕ} {elems : ℕ} (W : WriterRequire
       end_is = sym (by.at-number h₇ W.elements e le 4) ∙ W.ends x x-survives
 
       -- it is 0, or one more than the number of that end
-      end_none : flat_reference s x ≡ none → get_or el (5 * e + 4) 0 ≡ 0
+      end_none : flat_reference s x ≡ None → get_or el (5 * e + 4) 0 ≡ 0
       unfolding end_of flat_reference
       end_none n =
           by-option (reference_of s x)
           (λ k. end_is ∙ rw (k, end_of))
-          (λ y k. let g : flat_reference s x ≡ some (chain_end s y) = rw k in not_none (sym n ∙ g))
+          (λ y k. let g : flat_reference s x ≡ Some (chain_end s y) = rw k in not_none (sym n ∙ g))
 
-      end-number : (v : Node) → reference_of s x ≡ some v → end_of s x ≡ number s (chain_end s v) + 1
+      end-number : (v : Node) → reference_of s x ≡ Some v → end_of s x ≡ number s (chain_end s v) + 1
       unfolding end_of
       end-number v k = rw (k, end_of)
 
-      end-some : (y : Node) → flat_reference s x ≡ some y → get_or el (5 * e + 4) 0 ≡ number s y + 1
+      end-some : (y : Node) → flat_reference s x ≡ Some y → get_or el (5 * e + 4) 0 ≡ number s y + 1
       unfolding flat_reference
       end-some y n =
           let r = some-map (chain_end s) (reference_of s x) y n in
           end_is ∙ end-number r.0 r.1 ∙ ap (λ (v : Node). number s v + 1) (sym r.2)
 
-      end-inside : (y : Node) → flat_reference s x ≡ some y → In y (tree_elements s)
+      end-inside : (y : Node) → flat_reference s x ≡ Some y → In y (tree_elements s)
       end-inside y n = reference-end-in s (omega (arith, W.naming.wide)) W.naming.formed h₇ W.row₅ x y (k-tree e le) n
 
       pub reference-room : 5 * get_or el (5 * e + 4) 0 ≤ length el
@@ -218,7 +217,7 @@ module _ {s : Recipe} {t el pre len : List ℕ} {elems : ℕ} (W : WriterRequire
 
     -- ---- its record
     pub record-written : {q f : ℕ} (out : List ℕ) (at : ℕ) {out₁ out₂ out₃ : List ℕ} {a b c : Option Node} → q ≡ get_or el (5 * e + 0) 0 → f ≡ flat_width s.width
-        → a ≡ some x → b ≡ parent_of s x → c ≡ flat_reference s x
+        → a ≡ Some x → b ≡ parent_of s x → c ≡ flat_reference s x
         → out₁ ≡ sets (set out at (get_or s.bytes (q + 1 + s.width) 0)) (at + 1) (flat_field s a)
         → out₂ ≡ sets out₁ (at + 1 + f) (flat_field s b)
         → out₃ ≡ sets out₂ (at + 1 + f + f) (flat_field s c)
@@ -226,7 +225,7 @@ module _ {s : Recipe} {t el pre len : List ℕ} {elems : ℕ} (W : WriterRequire
     unfolding flat_record flat_width
     record-written {q} {f} out at {out₁} {out₂} {out₃} hq hf ha hb hc o₁ o₂ o₃ =
         let two : 2 ≤ s.width = omega (arith, W.naming.wide) in
-        let A = flat_field s (some x) in
+        let A = flat_field s (Some x) in
         let B = flat_field s (parent_of s x) in
         let C = flat_field s (flat_reference s x) in
         let la : length A ≡ f = name-field s two W.naming.formed W.fates.row₇ W.row₅ x (k-tree e le) ∙ sym hf in

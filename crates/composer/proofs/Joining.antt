@@ -6,14 +6,16 @@ use Prim.Native.Nat.{ℕ, ◌*◌, ◌≤◌, ◌<◌}
 use native.Mathlib.Omega.{arith}
 use native.Mathlib.Nat.{mul_comm}
 use lib.ListN.{length, drop}
-use Rattle.names.specs.Judging.{refusal_at, judged, handed}
-use Rattle.names.proofs.Judging.{handed-some}
+use Rattle.std.specs.Prelude.{Some}
+use Rattle.names.specs.declared.Refusal.{Refusal}
+use Rattle.names.specs.Judging.{row_number}
+use Rattle.names.proofs.Judging.{number-positive}
 use Rattle.flat_table.specs.Table.{flat_length}
 use Rattle.recipe.specs.Records.{Recipe}
 use Rattle.marks.specs.Marks.{survivors}
 use Rattle.composer.specs.declared.Answer.{Answer}
 use Rattle.composer.specs.Flat.{flat}
-use Rattle.compose.specs.Rows.{Unrefused, refusal_of, refusal_rows}
+use Rattle.compose.specs.Rows.{Unrefused, refusal_of}
 use Rattle.composer.specs.Verdicts.{accepted, refused, verdict, written}
 use Rattle.composer.proofs.Verdicts.{refuses, accepts, lacks-room, written-table, written-not}
 
@@ -24,13 +26,12 @@ module _ (s : Recipe) where
   refusal-keeps n p out n₀ e = sym (written-not s out (λ z. n₀ (ap (λ (a : Answer). a.number) e ∙ z)))
 
   -- ---- a row before 13 refuses
-  module _ (n p : ℕ) (out : List ℕ) (e : refusal_at n p ≡ handed (judged (refusal_rows s))) (n₀ : n ≡ 0 → ⊥) where
-    pub compose-refuses : refused n p ≡ verdict s (length out)
-    unfolding refusal_of
-    compose-refuses = refuses s (refusal_at n p) (length out) (handed-some (judged (refusal_rows s)) e n₀)
+  module _ (r : Refusal) (out : List ℕ) (e : Some r ≡ refusal_of s) where
+    pub compose-refuses : refused (row_number r.reason) r.place ≡ verdict s (length out)
+    compose-refuses = refuses s r (length out) (sym e)
 
     pub compose-keeps : out ≡ written s out
-    compose-keeps = refusal-keeps n p out n₀ compose-refuses
+    compose-keeps = refusal-keeps (row_number r.reason) r.place out (λ z. omega (arith, number-positive r.reason, z)) compose-refuses
 
   -- ---- none of them does: the room decides
   module _ (h : Unrefused s) {k row : ℕ} (k-is : k ≡ length (survivors s)) (row_is : row ≡ flat_length s.width) (out : List ℕ) where

@@ -1,9 +1,9 @@
 -- Demand 3: what holds of every recipe that no row before 13 refuses, at every name width of two or more, and of its flat table.
 -- Each part is a clause of the demand and cites a law that is proved elsewhere; `Demand.antt` says it of the call. Assumes nothing.
+use Rattle.std.specs.Prelude.{Some}
 use mathlib.Core.Path.{◌≡◌}
 use Prim.Native.Nat.{ℕ, ◌*◌, ◌≤◌}
 use mathlib.Core.Bool.{true, false}
-use mathlib.Core.Option.{some}
 use mathlib.Core.List.{List}
 use lib.ListN.{length}
 use Rattle.names.specs.Lists.{In, Pointwise, begins}
@@ -42,7 +42,7 @@ pub record Promises (s : Recipe) : Type 0 where
   -- "each filled .. reference field is the name of exactly one record": that of the end of the chain from the element that the survivor's reference names
   pub references : (p : ℕ) → In p (record_places s) → is_blank (reference_at s p) ≡ false → ReferenceNamed s p
   -- "a reference names the record at the end of the replacement chain, never a gone element": a chain leads from what a survivor's reference names to a survivor
-  pub present : (x y : Node) → In x (survivors s) → reference_of s x ≡ some y → Ended s y
+  pub present : (x y : Node) → In x (survivors s) → reference_of s x ≡ Some y → Ended s y
   -- "the end of the replacement chain" is one: a chain leads to it from each element of the tree, and no chain from there ends elsewhere
   pub ends : (x : Node) → In x (tree_elements s) → ((k : ℕ) × Chain s k x (chain_end s x)) × ((k : ℕ) (z : Node) → Chain s k x z → z ≡ chain_end s x)
   -- "no chain is longer than five steps", from any element of the tree

@@ -1,13 +1,12 @@
 -- The records of the flat table are those of the survivors, in tree order; each has a name of its own; and the table check accepts it.
 -- Assumes nothing.
+use Rattle.std.specs.Prelude.{None, Option, Some, option_map}
 use mathlib.Core.Path.{◌≡◌, refl, sym, ap, ◌∙◌}
 use mathlib.Core.Logic.{inl, inr}
 use Prim.Native.Nat.{ℕ, zero, suc, ◌+◌, ◌*◌, ◌/◌, ◌%◌, ◌≤◌, ◌<◌}
 use native.Mathlib.Omega.{arith}
 use native.Mathlib.Nat.{mul-div_right, mul-mod_right, mul_comm, mul-le-mul_left, add-zero}
 use mathlib.Core.Bool.{Bool, true, false, not, ◌&&◌}
-use mathlib.Core.Option
-use mathlib.Core.Option.{Option, none, some}
 use mathlib.Core.List.{List, [], ◌∷◌, ◌++◌, map, append_assoc}
 use lib.ListN.{length, get_or, take, drop}
 use lib.Seq.{drop-drop, get_or-drop, take_at, drop_at}
@@ -41,7 +40,7 @@ use Rattle.composer.proofs.Characters.{field-name, field-tells, field-blank, fie
 use Rattle.composer.specs.FlatRecords.{record_places, name_at, parent_at, reference_at, RecordOf, NamesOne, ParentNamed, ReferenceNamed, Ended}
 
 module _ (s : Recipe) where
-  module _ (two : 2 ≤ s.width) (h₃ : fault₃ s ≡ none) (h₅ : fault₅ s ≡ none) (h₇ : fault₇ s ≡ none) where
+  module _ (two : 2 ≤ s.width) (h₃ : fault₃ s ≡ None) (h₅ : fault₅ s ≡ None) (h₇ : fault₇ s ≡ None) where
     some_bytes : 0 < flat_length s.width
     unfolding flat_length
     some_bytes = omega arith
@@ -52,7 +51,7 @@ module _ (s : Recipe) where
       w = flat_width s.width
 
       name_f : List ℕ
-      name_f = flat_field s (some x)
+      name_f = flat_field s (Some x)
 
       parent_f : List ℕ
       parent_f = flat_field s (parent_of s x)
@@ -133,7 +132,7 @@ module _ (s : Recipe) where
     place_of x i = pointwise-right (RecordOf s) (record_places s) (survivors s) x records i
 
     -- "the end of the replacement chain, never a gone element", of a survivor's reference
-    pub reference-ended : fault₆ s ≡ none → fault₉ s ≡ none → fault₁₂ s ≡ none → (x y : Node) → In x (survivors s) → reference_of s x ≡ some y → Ended s y
+    pub reference-ended : fault₆ s ≡ None → fault₉ s ≡ None → fault₁₂ s ≡ None → (x y : Node) → In x (survivors s) → reference_of s x ≡ Some y → Ended s y
     reference-ended h₆ h₉ h₁₂ x y i e =
         let j : In y (tree_elements s) = reference-in s x y (survivor s x i).0 e in
         let c = chain-exists s h₉ h₃ h₅ h₆ h₇ y j in
@@ -141,9 +140,9 @@ module _ (s : Recipe) where
         let z = survivor s (chain_end s y) k in
         record { inside = j; steps = c.0; chain = c.1; survives = k; present = not-gone s h₅ (chain_end s y) z.0 z.1 }
 
-    module _ (h₄ : fault₄ s ≡ none) where
+    module _ (h₄ : fault₄ s ≡ None) where
       -- ---- "no two records with one name"
-      pub same-survivor : (x y : Node) → In x (survivors s) → In y (survivors s) → flat_field s (some x) ≡ flat_field s (some y) → x ≡ y
+      pub same-survivor : (x y : Node) → In x (survivors s) → In y (survivors s) → flat_field s (Some x) ≡ flat_field s (Some y) → x ≡ y
       same-survivor x y i j e =
           let a = (survivor s x i).0 in
           let b = (survivor s y j).0 in
@@ -167,14 +166,14 @@ module _ (s : Recipe) where
           (λ l. absurd (not-before q p j i l (sym e)))
 
       -- the record that a field names: that of the element whose flat name it is
-      named : (x : Node) (q : ℕ) → In q (record_places s) → RecordOf s q x → (f : List ℕ) → f ≡ flat_field s (some x)
-          → row_named (flat_width s.width) (flat_length s.width) (flat s) f ≡ some q
+      named : (x : Node) (q : ℕ) → In q (record_places s) → RecordOf s q x → (f : List ℕ) → f ≡ flat_field s (Some x)
+          → row_named (flat_width s.width) (flat_length s.width) (flat s) f ≡ Some q
       unfolding row_named
       named x q j r f e =
           first-is (λ k. same (name_at s k) f) (record_places s) q j (eq-same (r.name ∙ sym e))
           (λ k i h. one-record k q i j (same_true (name_at s k) f h ∙ (e ∙ sym r.name)))
 
-      pub names-one : (z : Node) → In z (survivors s) → (f : List ℕ) → f ≡ flat_field s (some z) → NamesOne s f z
+      pub names-one : (z : Node) → In z (survivors s) → (f : List ℕ) → f ≡ flat_field s (Some z) → NamesOne s f z
       names-one z k f e =
           let q = place_of z k in
           let n : name_at s q.0 ≡ f = q.2.name ∙ sym e in
@@ -198,15 +197,15 @@ module _ (s : Recipe) where
           })
 
       -- "each filled .. reference field is the name of exactly one record", that of the end of the chain
-      pub reference-named : fault₁₂ s ≡ none → (p : ℕ) → In p (record_places s) → is_blank (reference_at s p) ≡ false → ReferenceNamed s p
+      pub reference-named : fault₁₂ s ≡ None → (p : ℕ) → In p (record_places s) → is_blank (reference_at s p) ≡ false → ReferenceNamed s p
       unfolding flat_reference
       reference-named h₁₂ p i b =
           let n = node_at p i in
           let x : Node = n.0 in
-          let f : (o : Option Node) → reference_of s x ≡ o → reference_at s p ≡ flat_field s (Option.map (chain_end s) o) =
-          λ o e. n.2.reference ∙ ap (λ (k : Option Node). flat_field s (Option.map (chain_end s) k)) e in
+          let f : (o : Option Node) → reference_of s x ≡ o → reference_at s p ≡ flat_field s (option_map (chain_end s) o) =
+          λ o e. n.2.reference ∙ ap (λ (k : Option Node). flat_field s (option_map (chain_end s) k)) e in
           by-option (reference_of s x)
-          (λ e. not-both (ap is_blank (f none e) ∙ field-blank s h₃) b)
+          (λ e. not-both (ap is_blank (f None e) ∙ field-blank s h₃) b)
           (λ y e.
           record {
             survivor = x;
@@ -215,11 +214,11 @@ module _ (s : Recipe) where
             referenced = y;
             is = e;
             inside = reference-in s x y (survivor s x n.1).0 e;
-            names = names-one (chain_end s y) (end-survives s h₁₂ h₅ h₇ x y n.1 e) (reference_at s p) (f (some y) e);
+            names = names-one (chain_end s y) (end-survives s h₁₂ h₅ h₇ x y n.1 e) (reference_at s p) (f (Some y) e);
           })
 
       -- the parent's record stands before its child's
-      parent-before : (p : ℕ) (x y : Node) → In p (record_places s) → RecordOf s p x → In x (survivors s) → parent_of s x ≡ some y → (q : ℕ) × In q (record_places s) × RecordOf s q y × (q < p)
+      parent-before : (p : ℕ) (x y : Node) → In p (record_places s) → RecordOf s p x → In x (survivors s) → parent_of s x ≡ Some y → (q : ℕ) × In q (record_places s) × RecordOf s q y × (q < p)
       unfolding survivors
       parent-before p x y i r j e =
           let t : Node → Bool = λ z. not (is_gone s z) in
@@ -231,9 +230,9 @@ module _ (s : Recipe) where
           let here : k.1 ≡ p = one-record k.1 p (earlier-second (record_places s) k.0 k.1 k.2) i (k.4.name ∙ sym r.name) in
           (k.0, earlier-first (record_places s) k.0 k.1 k.2, k.3, omega (arith, earlier-less 0 (record_places s) k.0 k.1 places-rise k.2))
 
-      module _ (h₁₂ : fault₁₂ s ≡ none) where
+      module _ (h₁₂ : fault₁₂ s ≡ None) where
         -- ---- rows 14 to 17
-        no-fault₁₄ : fault₁₄ (flat_width s.width) (flat_length s.width) (flat s) ≡ none
+        no-fault₁₄ : fault₁₄ (flat_width s.width) (flat_length s.width) (flat s) ≡ None
         unfolding fault₁₄ survivors most_rows most_elements
         no-fault₁₄ =
             let l : ℕ = flat_length s.width in
@@ -244,7 +243,7 @@ module _ (s : Recipe) where
             let long : length (flat s) ≤ most_rows * l = omega (arith, mul-le-mul_left l few, mul_comm l most_rows) in
             rw (eq-eqb (length (flat s) % l) 0 whole, le-ltb (most_rows * l) (length (flat s)) long)
 
-        no-fault₁₅ : fault₁₅ (flat_width s.width) (flat_length s.width) (flat s) ≡ none
+        no-fault₁₅ : fault₁₅ (flat_width s.width) (flat_length s.width) (flat s) ≡ None
         unfolding fault₁₅ is_malformed_row
         no-fault₁₅ =
             first-none (is_malformed_row (flat_width s.width) (flat_length s.width) (flat s)) (record_places s)
@@ -264,7 +263,7 @@ module _ (s : Recipe) where
               field-reads s h₃ (flat_reference s x) (λ y e. reference-end-in s two h₃ h₇ h₅ x y a e),
             ))
 
-        no-fault₁₆ : fault₁₆ (flat_width s.width) (flat_length s.width) (flat s) ≡ none
+        no-fault₁₆ : fault₁₆ (flat_width s.width) (flat_length s.width) (flat s) ≡ None
         unfolding fault₁₆ is_repeated_row
         no-fault₁₆ =
             first-none (is_repeated_row (flat_width s.width) (flat_length s.width) (flat s)) (record_places s)
@@ -288,15 +287,15 @@ module _ (s : Recipe) where
             by-option (parent_of s x)
             (λ e.
             let blank : is_blank (parent_at s p) ≡ true = ap is_blank (r.parent ∙ ap (flat_field s) e) ∙ field-blank s h₃ in
-            let allowed : parent_allowed (class s x.place) none ≡ true =
+            let allowed : parent_allowed (class s x.place) None ≡ true =
             by_cases (is_blank (parent_field s x.place))
             (λ b. blank-parent s h₅ (definition_at s x.path) x.place el b)
             (λ b. let f = filled-parent s h₅ (definition_at s x.path) x.place el b in
-            not_none (sym e ∙ ap (Option.map (node x.path)) f.1)) in
+            not_none (sym e ∙ ap (option_map (node x.path)) f.1)) in
             rw (blank, r.kind, allowed))
             (λ y e.
             let b = parent-before p x y i r n.1 e in
-            let f : parent_at s p ≡ flat_field s (some y) = r.parent ∙ ap (flat_field s) e in
+            let f : parent_at s p ≡ flat_field s (Some y) = r.parent ∙ ap (flat_field s) e in
             let filled : is_blank (parent_at s p) ≡ false = ap is_blank f ∙ field-filled s h₃ y (parent_in s x y a e) in
             let look = named y b.0 b.1 b.2 (parent_at s p) f in
             rw (filled, look, r.kind, b.2.kind, lt-ltb b.0 p b.3, (parent-class s h₅ x y a e).2))
@@ -311,9 +310,9 @@ module _ (s : Recipe) where
             let r : RecordOf s p x = n.2 in
             by-option (reference_of s x)
             (λ e.
-            let f : flat_reference s x ≡ none = ap (Option.map (chain_end s)) e in
+            let f : flat_reference s x ≡ None = ap (option_map (chain_end s)) e in
             let blank : is_blank (reference_at s p) ≡ true = ap is_blank (r.reference ∙ ap (flat_field s) f) ∙ field-blank s h₃ in
-            let allowed : reference_allowed (class s x.place) none ≡ true =
+            let allowed : reference_allowed (class s x.place) None ≡ true =
             by_cases (is_blank (reference_field s x.place))
             (λ b. blank-reference s h₁₂ x n.1 b)
             (λ b. not_none (sym e ∙ (filled-reference s h₁₂ x n.1 b).1)) in
@@ -322,12 +321,12 @@ module _ (s : Recipe) where
             let z : Node = chain_end s y in
             let k = end-survives s h₁₂ h₅ h₇ x y n.1 e in
             let q = place_of z k in
-            let f : reference_at s p ≡ flat_field s (some z) = r.reference ∙ ap (λ (o : Option Node). flat_field s (Option.map (chain_end s) o)) e in
+            let f : reference_at s p ≡ flat_field s (Some z) = r.reference ∙ ap (λ (o : Option Node). flat_field s (option_map (chain_end s) o)) e in
             let filled : is_blank (reference_at s p) ≡ false = ap is_blank f ∙ field-filled s h₃ z (survivor s z k).0 in
             let look = named z q.0 q.1 q.2 (reference_at s p) f in
             rw (filled, look, r.kind, q.2.kind, (reference-end s h₁₂ x y n.1 e).1))
 
-        no-fault₁₇ : fault₁₇ (flat_width s.width) (flat_length s.width) (flat s) ≡ none
+        no-fault₁₇ : fault₁₇ (flat_width s.width) (flat_length s.width) (flat s) ≡ None
         unfolding fault₁₇ is_row_fault
         no-fault₁₇ =
             first-none (is_row_fault (flat_width s.width) (flat_length s.width) (flat s)) (record_places s)

@@ -1,17 +1,18 @@
 -- The verdict and the rows: it accepts where no row applies, and where it accepts no row applies; and what the output is then.
 -- Assumes nothing.
+use Rattle.names.specs.declared.Reason.TheVariants.{NoRoom}
+use Rattle.std.specs.Prelude.{Some}
 use mathlib.Core.Path.{◌≡◌, refl, sym, ap, ◌∙◌}
 use Prim.Native.Nat.{ℕ, ◌*◌, ◌≤◌, ◌<◌}
 use native.Mathlib.Omega.{arith}
-use mathlib.Core.Option.{some}
 use mathlib.Core.List.{List, [], ◌∷◌, ◌++◌}
 use lib.ListN.{length, drop, length-append, length-drop}
 use lib.Dec.{eqb}
 use borrow.Author.Tests.{eq-eqb, ne_eqb, eqb-true, eqb-false, ltb-false, lt-ltb, le-ltb}
 use Rattle.names.specs.declared.Refusal.{Refusal}
-use Rattle.names.specs.Judging.{row, judged, are_refusals}
+use Rattle.names.specs.Judging.{row_number, row, judged}
 use Rattle.names.proofs.Tests.{by_cases, by-option}
-use Rattle.names.proofs.Judging.{row-applies, row-none, none-judged, judged-none, refusal-number}
+use Rattle.names.proofs.Judging.{row-applies, row-none, none-judged, judged-none, number-positive}
 use Rattle.flat_table.specs.Table.{flat_length}
 use Rattle.recipe.specs.Records.{Recipe}
 use Rattle.recipe.specs.Reading.{at_start}
@@ -25,22 +26,22 @@ use Rattle.composer.proofs.Lengths.{flat-bytes}
 
 module _ (s : Recipe) where
   -- a refusal by a row before 13 is the answer, whatever the room
-  pub refuses : (r : Refusal) (room : ℕ) → refusal_of s ≡ some r → refused r.number r.place ≡ verdict s room
+  pub refuses : (r : Refusal) (room : ℕ) → refusal_of s ≡ Some r → refused (row_number r.reason) r.place ≡ verdict s room
   unfolding verdict refused_or
   refuses r room e = rw e
 
   -- where flattening accepts, no row applies
   pub unrefused : (room : ℕ) → (verdict s room).number ≡ 0 → Unrefused s
-  unfolding refusal_of refused are_refusals
+  unfolding refusal_of refused
   unrefused room e =
       by-option (refusal_of s)
       (judged-none (refusal_rows s))
       (λ r f.
       let n = ap (λ (a : Answer). a.number) (refuses r room f) ∙ e in
-      absurd (omega (arith, refusal-number (refusal_rows s) refl r f)))
+      absurd (omega (arith, number-positive r.reason)))
 
   -- and where none does the room decides
-  decides : (room : ℕ) → Unrefused s → verdict s room ≡ refused_or (judged (row 13 (fault₁₃ s room) ∷ [])) (accepted s.width (length (survivors s)))
+  decides : (room : ℕ) → Unrefused s → verdict s room ≡ refused_or (judged (row NoRoom (fault₁₃ s room) ∷ [])) (accepted s.width (length (survivors s)))
   unfolding verdict refusal_of refused_or
   decides room h = rw (none-judged (refusal_rows s) h)
 
@@ -50,7 +51,7 @@ module _ (s : Recipe) where
       by-option (fault₁₃ s room)
       (λ f. ltb-false room (flat_length s.width * length (survivors s)) (not-at-start _ f))
       (λ p f.
-      let d : verdict s room ≡ refused 13 p = decides room (unrefused room e) ∙ rw (row-applies 13 [] f) in
+      let d : verdict s room ≡ refused 13 p = decides room (unrefused room e) ∙ rw (row-applies NoRoom [] f) in
       let n = ap (λ (a : Answer). a.number) (sym d) ∙ e in
       absurd (omega arith))
 
@@ -70,7 +71,7 @@ module _ (s : Recipe) where
   refusal-counts room n =
       by-option (refusal_of s)
       (λ e.
-      by-option (judged (row 13 (fault₁₃ s room) ∷ []))
+      by-option (judged (row NoRoom (fault₁₃ s room) ∷ []))
       (λ f. absurd (n (rw (e, f))))
       (λ r f. rw (e, f) (refl, refl)))
       (λ r e. rw e (refl, refl))

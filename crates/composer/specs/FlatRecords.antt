@@ -1,7 +1,6 @@
 -- The records of a recipe's flat table, by their places: what the promises of demand 3 are stated with.
 -- Assumes nothing.
-use Rattle.std.specs.Prelude.{ℕ, ◌≡◌, List}
-use Rattle.std.proofs.Math.Option.{some}
+use Rattle.std.specs.Prelude.{ℕ, ◌≡◌, List, Some}
 use Rattle.names.specs.Lists.{In}
 use Rattle.flat_table.specs.Table.{rows, row_kind, row_name, row_parent, row_reference, flat_width, flat_length}
 use Rattle.recipe.specs.Records.{Recipe, class}
@@ -33,7 +32,7 @@ module _ (s : Recipe) where
   -- the record at p is that of the element x: "its class as the kind byte, then .. flat name, parent's flat name or zeros, flat name of the .. end of the chain .. or zeros"
   pub record RecordOf (p : ℕ) (x : Node) : Type 0 where
     pub kind : kind_at p ≡ class s x.place
-    pub name : name_at p ≡ flat_field s (some x)
+    pub name : name_at p ≡ flat_field s (Some x)
     pub parent : parent_at p ≡ flat_field s (parent_of s x)
     pub reference : reference_at p ≡ flat_field s (flat_reference s x)
 
@@ -52,7 +51,7 @@ module _ (s : Recipe) where
     pub survives : In survivor (survivors s)
     pub of : RecordOf p survivor
     pub parent : Node
-    pub is : parent_of s survivor ≡ some parent
+    pub is : parent_of s survivor ≡ Some parent
     pub names : NamesOne (parent_at p) parent
 
   -- the record at p is that of a survivor, and its reference field names that of the end of the chain from the element of the tree that the survivor's reference names
@@ -61,7 +60,7 @@ module _ (s : Recipe) where
     pub survives : In survivor (survivors s)
     pub of : RecordOf p survivor
     pub referenced : Node
-    pub is : reference_of s survivor ≡ some referenced
+    pub is : reference_of s survivor ≡ Some referenced
     pub inside : In referenced (tree_elements s)
     pub names : NamesOne (reference_at p) (chain_end s referenced)
 

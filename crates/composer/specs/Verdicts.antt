@@ -1,9 +1,9 @@
 -- 01's "Verdicts": row 13 behind the others, the answer of flattening a recipe into an output, and the output afterwards.
 -- Assumes nothing.
-use Rattle.std.specs.Prelude.{ℕ, ◌*◌, cond, List, [], ◌∷◌, ◌++◌, length, drop, ltb, eqb}
-use Rattle.std.proofs.Math.Option.{Option, none, some}
+use Rattle.names.specs.declared.Reason.TheVariants.{NoRoom}
+use Rattle.std.specs.Prelude.{ℕ, ◌*◌, cond, List, [], ◌∷◌, ◌++◌, length, drop, ltb, eqb, None, Option, Some}
 use Rattle.names.specs.declared.Refusal.{Refusal}
-use Rattle.names.specs.Judging.{row, judged}
+use Rattle.names.specs.Judging.{row_number, row, judged}
 use Rattle.flat_table.specs.Table.{flat_length}
 use Rattle.recipe.specs.Records.{Recipe}
 use Rattle.recipe.specs.Reading.{at_start}
@@ -34,12 +34,12 @@ refused n p = record { number = n; place = p; count = 0; bytes = 0 }
 
 -- a refusal handed on, or the answer where there is none
 unfoldable pub refused_or : Option Refusal → Answer → Answer
-refused_or none next = next
-refused_or (some r) next = refused r.number r.place
+refused_or None next = next
+refused_or (Some r) next = refused (row_number r.reason) r.place
 
 -- the answer of flattening s into `room` bytes: the recipe's refusal, or row 13, or acceptance
 unfoldable pub verdict : Recipe → ℕ → Answer
-verdict s room = refused_or (refusal_of s) (refused_or (judged (row 13 (fault₁₃ s room) ∷ [])) (accepted s.width (length (survivors s))))
+verdict s room = refused_or (refusal_of s) (refused_or (judged (row NoRoom (fault₁₃ s room) ∷ [])) (accepted s.width (length (survivors s))))
 
 -- "bytes after those are unchanged"; on a refusal "an unchanged output": the output afterwards
 unfoldable pub written : Recipe → List ℕ → List ℕ

@@ -1,8 +1,6 @@
 -- What the writer of the flat table is given: the elements of the tree by number, with their fates and ends of chains, and the prefixes.
 -- Assumes nothing.
-use Rattle.std.specs.Prelude.{ℕ, ◌+◌, ◌*◌, ◌-◌, ◌<◌, ◌≤◌, eqb, get_or, length, cond, true, List, [], ◌≡◌}
-use Rattle.std.proofs.Math.Option
-use Rattle.std.proofs.Math.Option.{Option, none, some}
+use Rattle.std.specs.Prelude.{ℕ, ◌+◌, ◌*◌, ◌-◌, ◌<◌, ◌≤◌, eqb, get_or, length, cond, true, List, [], ◌≡◌, None, Option, Some, unwrap_or}
 use Rattle.names.specs.Lists.{In}
 use Rattle.recipe.specs.Definitions.{element_in}
 use Rattle.recipe.specs.Reading.{fault₅}
@@ -20,11 +18,11 @@ element_at s e = get_or (tree_elements s) e (node [] 0)
 
 -- the element of record m in the instance of number i; none where m is 0
 unfoldable pub site_of : Recipe → ℕ → ℕ → Option Node
-site_of s i m = cond (eqb m 0) none (some (node (get_or (instances s) i []) m))
+site_of s i m = cond (eqb m 0) None (Some (node (get_or (instances s) i []) m))
 
 -- the elements by number and which of them are gone, of a recipe that row 7 does not refuse
 pub record FatesRequires (s : Recipe) (el : List ℕ) (elems : ℕ) : Type 0 where
-  pub row₇ : fault₇ s ≡ none
+  pub row₇ : fault₇ s ≡ None
   pub count : elems ≡ length (tree_elements s)
   pub room : 5 * length (tree_elements s) ≤ length el
   pub gones : Gones s el
@@ -32,9 +30,9 @@ pub record FatesRequires (s : Recipe) (el : List ℕ) (elems : ℕ) : Type 0 whe
 -- what the flat table takes
 pub record WriterRequires (s : Recipe) (t el pre len : List ℕ) (elems : ℕ) : Type 0 where
   pub naming : Naming s
-  pub row₅ : fault₅ s ≡ none
+  pub row₅ : fault₅ s ≡ None
   pub shadowed : Shadowed s t
-  pub parents : (e : ℕ) → In e (places s) → is_element s e ≡ true → get_or t (e + 3) 0 ≡ Option.get_or (element_in s e (parent_field s e)) 0
+  pub parents : (e : ℕ) → In e (places s) → is_element s e ≡ true → get_or t (e + 3) 0 ≡ unwrap_or (element_in s e (parent_field s e)) 0
   pub fates : FatesRequires s el elems
   pub elements : ElementRows s el
   pub ends : Ends s el

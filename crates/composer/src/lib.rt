@@ -4,6 +4,7 @@
 
 ghost use Rattle.std.specs.Prelude.{◌≡◌, ◌++◌, ◌+◌, ◌*◌, ◌<◌, ◌≤◌, length, get_or, drop};
 ghost use Rattle.std.proofs.lemmas.List.Edits.{sets};
+ghost use Rattle.names.specs.Judging.{row_number};
 ghost use Rattle.flat_table.specs.Table.{flat_width, flat_length};
 ghost use Rattle.recipe.specs.Records.{recipe_at};
 ghost use Rattle.compose.specs.Composed.{Composed};
@@ -15,7 +16,9 @@ ghost use Rattle.compose.specs.Rows.{Unrefused};
 ghost use Rattle.composer.specs.Writing.{site_of, SiteInTree, SiteAt, FatesRequires, WriterRequires};
 
 use elements::{GONE, INSTANCE, RECORD};
+use names::{Reason, Refusal};
 use shadow::cell;
+use tree::Size;
 
 // 01's name width.
 pub const NAME_WIDTH: usize = 12;
@@ -150,36 +153,28 @@ pub fn write_table(
     }
 }
 
-// A refusal's answer.
-fn refusal(number: u64, place: u64) -> Answer
-    ensures { result ≡ refused number place }
-{
-    Answer {
-        number: number,
-        place: place,
-        count: 0,
-        bytes: 0,
+impl From<Refusal> for Answer {
+    ghost from_gives = { λ r a. a ≡ refused (row_number r.reason) r.place };
+
+    fn from(r: Refusal) -> Answer {
+        Answer {
+            number: r.reason.number(),
+            place: r.place as u64,
+            count: 0,
+            bytes: 0,
+        }
     }
 }
 
 // The prefixes of a recipe that no row refuses, and the flat table.
-fn write_all(
-    s: &[u8],
-    w: usize,
-    t: &[u16],
-    inst: &[u16],
-    el: &[u16],
-    insts: usize,
-    elems: usize,
-    table: &mut [u8],
-)
-    requires { Composed (recipe_at w s.now) t.now inst.now el.now insts elems × (flat_length w * length (survivors (recipe_at w s.now)) ≤ length table.old) }
+fn write_all(s: &[u8], w: usize, t: &[u16], inst: &[u16], el: &[u16], n: Size, table: &mut [u8])
+    requires { Composed (recipe_at w s.now) t.now inst.now el.now n.insts n.elems × (flat_length w * length (survivors (recipe_at w s.now)) ≤ length table.old) }
     ensures { table.new ≡ flat (recipe_at w s.now) ++ drop (length (flat (recipe_at w s.now))) table.old }
 {
     let mut pre = [0u8; flat_names::PREFIX_BYTES];
     let mut len = [0u16; flat_names::PREFIX_ROWS];
-    flat_names::fill_prefixes(s, w, t, inst, insts, &mut pre, &mut len);
-    write_table(s, w, t, el, elems, &pre, &len, table);
+    flat_names::fill_prefixes(s, w, t, inst, n.insts, &mut pre, &mut len);
+    write_table(s, w, t, el, n.elems, &pre, &len, table);
 }
 
 // Row 13, of a recipe that no other row refuses; where it does not apply, the flat table.
@@ -189,23 +184,25 @@ fn flatten_composed(
     t: &[u16],
     inst: &[u16],
     el: &[u16],
-    insts: usize,
-    elems: usize,
+    n: Size,
     table: &mut [u8],
 ) -> Answer
-    requires { Composed (recipe_at w s.now) t.now inst.now el.now insts elems × Unrefused (recipe_at w s.now) }
+    requires { Composed (recipe_at w s.now) t.now inst.now el.now n.insts n.elems × Unrefused (recipe_at w s.now) }
     ensures { (result ≡ verdict (recipe_at w s.now) (length table.old)) × (table.new ≡ written (recipe_at w s.now) table.old) }
 {
-    let n = count_survivors(s, w, el, elems);
-    let bytes = n * record_width(w);
+    let count = count_survivors(s, w, el, n.elems);
+    let bytes = count * record_width(w);
     if table.len() < bytes {
-        return refusal(13, 0);
+        return Answer::from(Refusal {
+            reason: Reason::NoRoom,
+            place: 0,
+        });
     }
-    write_all(s, w, t, inst, el, insts, elems, table);
+    write_all(s, w, t, inst, el, n, table);
     Answer {
         number: 0,
         place: 0,
-        count: n as u64,
+        count: count as u64,
         bytes: bytes as u64,
     }
 }
@@ -217,15 +214,10 @@ pub fn flatten(recipe: &[u8], table: &mut [u8]) -> Answer
     let mut t = [0u16; compose::SHADOW_CELLS];
     let mut inst = [0u16; compose::INSTANCE_CELLS];
     let mut el = [0u16; compose::ELEMENT_CELLS];
-    let c = compose::compose(recipe, NAME_WIDTH, &mut t, &mut inst, &mut el);
-    let number = c.number;
-    let place = c.place;
-    let insts = c.insts;
-    let elems = c.elems;
-    if number != 0 {
-        return refusal(number, place);
+    match compose::compose(recipe, NAME_WIDTH, &mut t, &mut inst, &mut el) {
+        Err(refusal) => Answer::from(refusal),
+        Ok(n) => flatten_composed(recipe, NAME_WIDTH, &t, &inst, &el, n, table),
     }
-    flatten_composed(recipe, NAME_WIDTH, &t, &inst, &el, insts, elems, table)
 }
 
 // Flattens, and asks the table check about the bytes written, none on a refusal: its own answer, which is always acceptance with the count of flattening.

@@ -1,5 +1,6 @@
 -- The elements of the tree by their numbers, and the columns of their rows: a pass that writes one column keeps the others.
 -- Assumes nothing.
+use Rattle.std.specs.Prelude.{None, Option, Some, option_map, unwrap_or}
 use Prim.Native.Nat.{◌*◌, ◌+◌, ◌-◌, ◌<◌, ◌≤◌, suc, zero, ℕ}
 use borrow.Author.Tests.{eqb-false, eqb-true}
 use lib.Dec.{eqb}
@@ -7,8 +8,6 @@ use lib.ListN.{get_or-map, get_or, length, length-map, length-set, set}
 use lib.Seq.{get_or-set_other, get_or-set_same}
 use mathlib.Core.Bool.{true}
 use mathlib.Core.List.{List, []}
-use mathlib.Core.Option
-use mathlib.Core.Option.{Option, map, none, some}
 use mathlib.Core.Path.{◌∙◌, ◌≡◌, ap, refl, sym}
 use native.Mathlib.Nat.{add-zero}
 use native.Mathlib.Omega.{arith}
@@ -47,7 +46,7 @@ module _ (s : Recipe) where
   pub element-held : (x : Node) → In x (tree_elements s) → Held s (is_element s) (definition_at s x.path) x.place
   element-held x i = in-elements s (definition_at s x.path) x.place (in_tree s x i).1
 
-  module _ (h₇ : fault₇ s ≡ none) where
+  module _ (h₇ : fault₇ s ≡ None) where
     weight_is : length (tree_elements s) ≡ weight s main
     weight_is = sym (length-map (tree_elements s) (number s)) ∙ ap length (tree-numbers s h₇) ∙ run_length 0 (weight s main)
 
@@ -73,12 +72,12 @@ module _ (s : Recipe) where
     elements-few = elements-most s h₇
 
 -- what is said of one element is said of each that has its number
-pub of-element : {A : Type 0} {s : Recipe} {e q : ℕ} → fault₇ s ≡ none → (E : Element s e q) (F : Node → A) {b : A} → b ≡ F E.it
+pub of-element : {A : Type 0} {s : Recipe} {e q : ℕ} → fault₇ s ≡ None → (E : Element s e q) (F : Node → A) {b : A} → b ≡ F E.it
     → (v : Node) → In v (tree_elements s) → number s v ≡ e → b ≡ F v
 of-element {s = s} h₇ E F h v i n = h ∙ ap F (number-inj s h₇ E.it v E.tree i (E.num ∙ sym n))
 
 -- ---- the row of the element of number z
-module _ {s : Recipe} {el : List ℕ} (h₇ : fault₇ s ≡ none) (R : ElementRows s el) {z : ℕ} where
+module _ {s : Recipe} {el : List ℕ} (h₇ : fault₇ s ≡ None) (R : ElementRows s el) {z : ℕ} where
   pub place_is : (v : Node) → In v (tree_elements s) → number s v ≡ z → v.place ≡ get_or el (5 * z + 0) 0
   place_is v i e = sym (R.records v i) ∙ ap (λ (k : ℕ). get_or el (5 * k + 0) 0) e
 
@@ -95,20 +94,20 @@ module _ {s : Recipe} {el : List ℕ} (h₇ : fault₇ s ≡ none) (R : ElementR
         let a = place_is N.0 N.1 N.2 ∙ sym r in (rw a at H.placed, rw a at H.passes)
 
 -- ---- the element that a field names, by its cell
-module _ (s : Recipe) (x : Node) (f : List ℕ) {m : ℕ} (e : m ≡ Option.get_or (element_in s x.place f) 0) where
-  pub names-none : m ≡ 0 → map (node x.path) (element_in s x.place f) ≡ none
+module _ (s : Recipe) (x : Node) (f : List ℕ) {m : ℕ} (e : m ≡ unwrap_or (element_in s x.place f) 0) where
+  pub names-none : m ≡ 0 → option_map (node x.path) (element_in s x.place f) ≡ None
   names-none z =
       by-option (element_in s x.place f)
-      (λ n. ap (map (node x.path)) n)
+      (λ n. ap (option_map (node x.path)) n)
       (λ k n.
       let r = (in-elements s (holder s x.place) k (element-in s x.place f k n).2).inside in
-      absurd (not-zero s (holder s x.place) k r (sym (e ∙ ap (λ (o : Option ℕ). Option.get_or o 0) n) ∙ z)))
+      absurd (not-zero s (holder s x.place) k r (sym (e ∙ ap (λ (o : Option ℕ). unwrap_or o 0) n) ∙ z)))
 
-  pub names-some : (m ≡ 0 → ⊥) → map (node x.path) (element_in s x.place f) ≡ some (node x.path m)
+  pub names-some : (m ≡ 0 → ⊥) → option_map (node x.path) (element_in s x.place f) ≡ Some (node x.path m)
   names-some z =
       by-option (element_in s x.place f)
-      (λ n. absurd (z (e ∙ ap (λ (o : Option ℕ). Option.get_or o 0) n)))
-      (λ k n. ap (map (node x.path)) (n ∙ ap some (sym (e ∙ ap (λ (o : Option ℕ). Option.get_or o 0) n))))
+      (λ n. absurd (z (e ∙ ap (λ (o : Option ℕ). unwrap_or o 0) n)))
+      (λ k n. ap (option_map (node x.path)) (n ∙ ap Some (sym (e ∙ ap (λ (o : Option ℕ). unwrap_or o 0) n))))
 
 -- ---- two elements of one instance, by the cells of their records
 module _ {s : Recipe} {t : List ℕ} (K : ElementsRequires s t) where

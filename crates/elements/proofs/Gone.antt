@@ -1,5 +1,6 @@
 -- What is gone, by the cells: the owner of a replaced-by, the target of a deletion or replacement, and their children.
 -- Assumes nothing.
+use Rattle.std.specs.Prelude.{None, Some, unwrap_or}
 use Prim.Native.Nat.{◌*◌, ◌+◌, ◌-◌, ◌<◌, ◌≤◌, ℕ}
 use borrow.Author.Tests.{eq-eqb, eqb-true, ne_eqb}
 use lib.Dec.{eqb}
@@ -7,8 +8,6 @@ use lib.ListN.{get_or, length}
 use mathlib.Core.Bool.{Bool, ◌&&◌, ◌||◌, cond, false, or-false, true}
 use mathlib.Core.List.{List}
 use mathlib.Core.Logic.{inr, ⊎_elim}
-use mathlib.Core.Option
-use mathlib.Core.Option.{none, some}
 use mathlib.Core.Path.{◌∙◌, ◌≡◌, ap, refl, sym}
 use native.Mathlib.Omega.{arith}
 use Rattle.names.specs.Lists.{In, among, any}
@@ -73,7 +72,7 @@ module _ (n e k : ℕ) (h : k ≤ 4) where
   unfolding gone_cell port_cell
   gone-not-port = ne_eqb (12 * n + 11) (12 * e + (6 + k)) (λ z. omega arith)
 
-module _ (s : Recipe) (h₅ : fault₅ s ≡ none) (h₇ : fault₇ s ≡ none) (h₈ : fault₈ s ≡ none) where
+module _ (s : Recipe) (h₅ : fault₅ s ≡ None) (h₇ : fault₇ s ≡ None) (h₈ : fault₈ s ≡ None) where
   -- the marks of the tree are those of its marks and ports that are marks
   marks-any : (g : Node → Bool) → any (λ q. is_mark s q.place && g q) (tree_pointers s) ≡ any g (tree_marks s)
   unfolding tree_marks
@@ -181,7 +180,7 @@ module _ {s : Recipe} {t cells : List ℕ} (K : ElementsRequires s t) (S : AllSt
     gone-own z = of-element K.row₇ E (is_gone s) (sym (or_left (is_marked_gone s x) _ (own ∙ z)))
 
     module _ {m : ℕ} (r : m ≡ get_or t (q + 3) 0) where
-      parent_is : m ≡ Option.get_or (element_in s x.place (parent_field s x.place)) 0
+      parent_is : m ≡ unwrap_or (element_in s x.place (parent_field s x.place)) 0
       parent_is =
           let i = element-held s x E.tree in
           r ∙ ap (λ (z : ℕ). get_or t (z + 3) 0) (sym E.at) ∙ K.aimed.measured.linked.parents x.place i.placed i.passes
@@ -191,7 +190,7 @@ module _ {s : Recipe} {t cells : List ℕ} (K : ElementsRequires s t) (S : AllSt
       gone-none z n = of-element K.row₇ E (is_gone s) (rw (own ∙ z, names-none s x (parent_field s x.place) parent_is n))
 
       module _ (n : m ≡ 0 → ⊥) where
-        a-parent : parent_of s x ≡ some (node x.path m)
+        a-parent : parent_of s x ≡ Some (node x.path m)
         unfolding parent_of
         a-parent = names-some s x (parent_field s x.place) parent_is n
 
@@ -203,15 +202,7 @@ module _ {s : Recipe} {t cells : List ℕ} (K : ElementsRequires s t) (S : AllSt
           unfolding is_gone
           gone-parent z g = of-element K.row₇ E (is_gone s) (rw (own ∙ z, a-parent) (g ∙ ap marked (sibling-number K E m parent-tree u v).1 ∙ marked-is (node x.path m) parent-tree))
 
--- what column 2 has
-module _ (s : Recipe) {e : ℕ} {b : Bool} (g : GoneAt s e b) (x : Node) (i : In x (tree_elements s)) (n : number s x ≡ e) where
-  pub gone-yes : b ≡ true → ◌≡◌ {A = ℕ} 1 (cond (is_gone s x) 1 0)
-  gone-yes z = rw (sym (g x i n) ∙ z)
-
-  pub gone-no : b ≡ false → ◌≡◌ {A = ℕ} 0 (cond (is_gone s x) 1 0)
-  gone-no z = rw (sym (g x i n) ∙ z)
-
--- and what it says
+-- ---- what column 2 says
 pub gone-told : (s : Recipe) (el : List ℕ) {e c : ℕ} → Gones s el → c ≡ get_or el (5 * e + 2) 0 → (x : Node) → In x (tree_elements s) → number s x ≡ e
     → ((c ≡ 0 → ⊥) → is_gone s x ≡ true) × (c ≡ 0 → is_gone s x ≡ false)
 gone-told s el {e} {c} G r x i n =

@@ -5,3 +5,5 @@ pub mod Listing
 pub mod Steps
 pub mod StepTable
 pub mod Lost
+pub mod Passing
+pub mod Following

@@ -1,6 +1,6 @@
 -- The elements of the tree listed by their numbers, record by record, and a record's instances along their thread.
 -- Assumes nothing.
-use Prim.Native.Nat.{◌*◌, ◌+◌, ◌-◌, ◌<◌, ◌≤◌, ℕ}
+use Prim.Native.Nat.{◌*◌, ◌+◌, ◌<◌, ◌≤◌, ℕ}
 use borrow.Author.Tests.{eqb-false, eqb-true}
 use lib.Dec.{eqb}
 use lib.ListN.{get_or, length, length-set, set}
@@ -13,7 +13,7 @@ use native.Mathlib.Omega.{arith}
 use Rattle.names.specs.Lists.{In}
 use Rattle.names.proofs.Tests.{by_cases}
 use Rattle.recipe.specs.Definitions.{holder}
-use Rattle.recipe.specs.Records.{Recipe, is_element, is_model, kind, next, places}
+use Rattle.recipe.specs.Records.{Recipe, is_element, is_model, kind, places}
 use Rattle.shadow.specs.Columns.{order}
 use Rattle.tree.specs.Numbers.{number}
 use Rattle.tree.specs.Tree.{Node, node, nodes, tree_elements}
@@ -21,14 +21,15 @@ use Rattle.tree.proofs.Numbering.{number-few, number-inj}
 use Rattle.marks.specs.Cells.{MarksRequires}
 use Rattle.elements.specs.Columns.{ElementRows}
 use Rattle.elements.specs.Listing.{Entry, Listed}
-use Rattle.marks.proofs.Threads.{Along, Done, Holds, begin, finish, path, this-in, turn}
+use Rattle.marks.proofs.Threads.{Done, Holds, path, this-in}
+use Rattle.elements.proofs.Following.{Following, follow-on, follows-holds}
+use Rattle.tree.specs.declared.InstancesOf.{InstancesOf}
+use Rattle.tree.specs.Steps.{StepsTo}
+use Rattle.std.specs.Prelude.{Some}
 
 -- the row of the element of number n, and the others, after `put_element`
 abbrev pub entered : List ℕ → ℕ → ℕ → ℕ → List ℕ
 entered el n p i = set (set (set el (5 * n + 0) p) (5 * n + 1) i) (5 * n + 3) 0
-
-pub entered-length : (el : List ℕ) (n p i : ℕ) → length (entered el n p i) ≡ length el
-entered-length el n p i = simp length-set
 
 module _ (el : List ℕ) (n p i : ℕ) (room : 5 * n + 4 < length el) where
   entered-record : get_or (entered el n p i) (5 * n + 0) 0 ≡ p
@@ -76,10 +77,6 @@ module _ (s : Recipe) where
   pub listed-rows : (el : List ℕ) → 5 * length (tree_elements s) ≤ length el → Listed s (λ x. Unit {0}) el → ElementRows s el
   listed-rows el l L = record { room = l; records = λ x i. (L x i tt).at; within = λ x i. (L x i tt).few; paths = λ x i. (L x i tt).path-is }
 
--- the elements of one record, along the instances
-abbrev pub ListLoop : Recipe → ℕ → List ℕ → ℕ → Type 0
-ListLoop s p el v = Along s p (λ D. Listed s D el) v
-
 -- ---- an element record in one instance
 module _ {s : Recipe} {t inst : List ℕ} (T : MarksRequires s t inst) (p : ℕ) (here : In p (places s)) (sort : is_element s p ≡ true) where
   module _ (i : ℕ) {f o : ℕ} (h : Holds s (holder s p) i) (rf : f ≡ get_or inst (6 * i + 2) 0) (ro : o ≡ get_or t (p + 1) 0) where
@@ -123,16 +120,10 @@ module _ {s : Recipe} {t inst : List ℕ} (T : MarksRequires s t inst) (p : ℕ)
           no_step = entered-other el (f + o) p i fits (number s x) 3 (omega arith) y ∙ E.no_step;
         })
 
-  -- ---- along the instances
-  pub list-start : {h v : ℕ} (el : List ℕ) → h ≡ get_or t (p + 0) 0 → v ≡ get_or t (h + 8) 0 → Listed s (λ q. q.place < p) el → ListLoop s p el v
-  list-start el a b L = begin T (is_element s) (λ D. Listed s D el) (listed_same s el) p here a b L
-
-  pub list-turn : {v f o x : ℕ} (el : List ℕ) {el' : List ℕ} → f ≡ get_or inst (6 * (v - 1) + 2) 0 → o ≡ get_or t (p + 1) 0 → 5 * 1024 ≤ length el
-      → el' ≡ entered el (f + o) p (v - 1) → ListLoop s p el v → (v ≡ 0 → ⊥) → x ≡ get_or inst (6 * (v - 1) + 5) 0 → ListLoop s p el' x
-  list-turn {v} {f} {o} el rf ro l r a n y =
+  -- the turn of instance i
+  pub list-turn : {a b : InstancesOf} (i : ℕ) {f o : ℕ} (el : List ℕ) {el' : List ℕ} → f ≡ get_or inst (6 * i + 2) 0 → o ≡ get_or t (p + 1) 0 → 5 * 1024 ≤ length el
+      → el' ≡ entered el (f + o) p i → Following s inst p (λ D. Listed s D el) a → StepsTo a (Some i) b → Following s inst p (λ D. Listed s D el') b
+  list-turn i {f} {o} el rf ro l r g e =
       rw r
-      (turn T (is_element s) (λ D. Listed s D (entered el (f + o) p (v - 1))) (listed_same s (entered el (f + o) p (v - 1))) p here (λ D. Listed s D el) a n y
-      (λ L. listed-one (v - 1) (a.0.holds n) rf ro el (Done s p (v - 1)) l L))
-
-  pub list-end : {v : ℕ} (el : List ℕ) → ListLoop s p el v → v ≡ 0 → Listed s (λ q. q.place < next s p) el
-  list-end el a z = finish T (is_element s) (λ D. Listed s D el) (listed_same s el) p here a z
+      (follow-on T p here (is_element s) (λ D. Listed s D (entered el (f + o) p i)) (listed_same s (entered el (f + o) p i)) g e
+      (λ L. listed-one i (follows-holds T p here g e) rf ro el (Done s p i) l L))

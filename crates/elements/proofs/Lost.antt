@@ -1,6 +1,6 @@
 -- Row 11's pass: a replaced-by in one instance, and whether its target is gone.
 -- Assumes nothing.
-use Prim.Native.Nat.{◌*◌, ◌+◌, ◌-◌, ◌<◌, ℕ}
+use Prim.Native.Nat.{◌*◌, ◌+◌, ◌<◌, ℕ}
 use lib.ListN.{get_or}
 use mathlib.Core.Bool.{Bool, cond, false, true}
 use mathlib.Core.List.{List}
@@ -19,7 +19,8 @@ use Rattle.marks.specs.Marks.{aim, from, is_gone}
 use Rattle.marks.proofs.Marks.{aim-in, aim-some}
 use Rattle.marks.proofs.Pass.{not-model}
 use Rattle.marks.proofs.Relations.{aimed-is}
-use Rattle.marks.proofs.Threads.{SeekLoop, found-one, path, seek-end, seek-turn, this-in}
+use Rattle.recipe.specs.Definitions.{holder}
+use Rattle.marks.proofs.Threads.{Holds, found-one, path, this-in}
 use Rattle.marks.proofs.Turn.{Read, aim-eq, aim-few, it-in}
 
 -- a mark has a target that is gone
@@ -35,12 +36,12 @@ module _ {s : Recipe} {t inst : List ℕ} (T : MarksRequires s t inst) (p : ℕ)
   sort : is_pointer s p ≡ true
   sort = or_left (is_mark s p) (is_port s p) (replaced-by-mark s p by)
 
-  module _ {v e f : ℕ} (a : SeekLoop s (is_replaced_by s) p (lost s) v) (n : v ≡ 0 → ⊥) (re : e ≡ get_or t (p + 9) 0) (rf : f ≡ get_or inst (6 * (v - 1) + 2) 0) where
+  module _ (i : ℕ) (h : Holds s (holder s p) i) {e f : ℕ} (re : e ≡ get_or t (p + 9) 0) (rf : f ≡ get_or inst (6 * i + 2) 0) where
     abbrev this : Node
-    this = node (path s (v - 1)) p
+    this = node (path s i) p
 
-    reads : Read s t inst p (v - 1) (get_or s.bytes p 0) e (get_or t (get_or t (p + 3) 0 + 1) 0) f
-    reads = record { holds = a.0.holds n; kind-is = refl; target_is = re; owner-is = λ z. refl; first-is = rf }
+    reads : Read s t inst p i (get_or s.bytes p 0) e (get_or t (get_or t (p + 3) 0 + 1) 0) f
+    reads = record { holds = h; kind-is = refl; target_is = re; owner-is = λ z. refl; first-is = rf }
 
     pub lost-few : f + e < 1024
     lost-few = aim-few T p here sort reads
@@ -49,22 +50,16 @@ module _ {s : Recipe} {t inst : List ℕ} (T : MarksRequires s t inst) (p : ℕ)
       -- the cell says whether its target is gone
       cell-is : b ≡ cond (lost s this) 1 0
       cell-is =
-          let i = it-in T p here sort (v - 1) (a.0.holds n) in
-          let x = aim-some s T.aimed.row₈ this i in
+          let j = it-in T p here sort i h in
+          let x = aim-some s T.aimed.row₈ this j in
           let y = from this.path x.0 in
-          r ∙ ap (λ (k : ℕ). get_or el (5 * k + 2) 0) (aim-eq T p here sort reads ∙ aimed-is s this y x.1) ∙ G y (aim-in s T.planted.row₇ this y i x.1) ∙ rw x.1
+          r ∙ ap (λ (k : ℕ). get_or el (5 * k + 2) 0) (aim-eq T p here sort reads ∙ aimed-is s this y x.1) ∙ G y (aim-in s T.planted.row₇ this y j x.1) ∙ rw x.1
 
       pub lost-hit : (b ≡ 0 → ⊥) → true ≡ aims_at_gone s p
       unfolding aims_at_gone node
       lost-hit z =
-          sym (found-one s (is_replaced_by s) p (lost s) this (this-in s (is_replaced_by s) p (v - 1) here (not-model s p sort) by (a.0.holds n)) refl
+          sym (found-one s (is_replaced_by s) p (lost s) this (this-in s (is_replaced_by s) p i here (not-model s p sort) by h) refl
           (by_cases (lost s this) (λ h. h) (λ h. absurd (z (cell-is ∙ rw h)))))
 
-      pub lost-turn : {x : ℕ} → b ≡ 0 → x ≡ get_or inst (6 * (v - 1) + 5) 0 → SeekLoop s (is_replaced_by s) p (lost s) x
-      lost-turn z y =
-          seek-turn T (is_replaced_by s) p here (lost s) a n y
-          (by_cases (lost s this) (λ h. let q : b ≡ 1 = cell-is ∙ rw h in absurd (omega arith)) (λ h. h))
-
-  pub lost-end : {v : ℕ} → SeekLoop s (is_replaced_by s) p (lost s) v → v ≡ 0 → false ≡ aims_at_gone s p
-  unfolding aims_at_gone
-  lost-end a z = sym (seek-end T (is_replaced_by s) p here (lost s) a z)
+      pub lost-miss : b ≡ 0 → lost s this ≡ false
+      lost-miss z = by_cases (lost s this) (λ h. let q : b ≡ 1 = cell-is ∙ rw h in absurd (omega arith)) (λ h. h)

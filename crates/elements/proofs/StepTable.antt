@@ -1,6 +1,7 @@
 -- The column of steps, filled mark by mark.
 -- Assumes nothing.
-use Prim.Native.Nat.{◌*◌, ◌+◌, ◌-◌, ◌<◌, ◌≤◌, ℕ}
+use Rattle.std.specs.Prelude.{None, Some}
+use Prim.Native.Nat.{◌*◌, ◌+◌, ◌<◌, ◌≤◌, ℕ}
 use borrow.Author.Tests.{eqb-false, eqb-true, ne_eqb}
 use lib.Dec.{eqb}
 use lib.ListN.{get_or, length, set}
@@ -8,14 +9,13 @@ use lib.Seq.{get_or-set_other, get_or-set_same}
 use mathlib.Core.Bool.{false, true}
 use mathlib.Core.List.{List}
 use mathlib.Core.Logic.{◌⊎◌, inl, inr, ⊎_elim}
-use mathlib.Core.Option.{none, some}
 use mathlib.Core.Path.{◌∙◌, ◌≡◌, ap, refl, sym}
 use native.Mathlib.Omega.{arith}
 use Rattle.names.specs.Lists.{In, first}
 use Rattle.names.proofs.Lists.{none_first, some_first}
 use Rattle.names.proofs.Tests.{and_left, and_right, both, by_cases, by-option, not-both, or_cases, or_left, or_right}
 use Rattle.recipe.specs.Reading.{fault₄, fault₅}
-use Rattle.recipe.specs.Records.{Recipe, is_mark, is_owned, is_pointer, is_port, is_replaced_by, is_replacement, kind, next, owned_kind, places, replaced_by_kind}
+use Rattle.recipe.specs.Records.{Recipe, is_mark, is_owned, is_pointer, is_port, is_replaced_by, is_replacement, kind, owned_kind, places, replaced_by_kind}
 use Rattle.recipe.proofs.Bodies.{owned-kind}
 use Rattle.recipe.proofs.Rows.{replaced-by-mark, replacement-mark}
 use Rattle.tree.specs.Faults.{fault₇, fault₈}
@@ -34,7 +34,10 @@ use Rattle.marks.proofs.Marks.{aim-in, aim-some, aimed, aims, mark-placed, mark-
 use Rattle.marks.proofs.Pass.{not-model}
 use Rattle.marks.proofs.Relations.{aimed-is}
 use Rattle.elements.proofs.Steps.{one-mark, one-owner, owner-free, step_down_lem, step-none, step-up}
-use Rattle.marks.proofs.Threads.{Along, Done, begin, finish, path, this-in, turn}
+use Rattle.marks.proofs.Threads.{Done, path, this-in}
+use Rattle.elements.proofs.Following.{Following, follow-on, follows-holds}
+use Rattle.tree.specs.declared.InstancesOf.{InstancesOf}
+use Rattle.tree.specs.Steps.{StepsTo}
 use Rattle.marks.proofs.Turn.{Read, aim-eq, aim-few, own-few, own-step}
 
 -- the same marks
@@ -51,11 +54,11 @@ went-same s el D E f g w = record {
 pub went-none : (s : Recipe) (el : List ℕ) → NoSteps s el → Went s (λ q. q.place < 0) el
 went-none s el n = record { has = λ q i a d. absurd (omega arith); others = λ x i h. n x i }
 
-module _ (s : Recipe) (h₄ : fault₄ s ≡ none) (h₅ : fault₅ s ≡ none) (h₇ : fault₇ s ≡ none) (h₈ : fault₈ s ≡ none) (h₉ : fault₉ s ≡ none) where
+module _ (s : Recipe) (h₄ : fault₄ s ≡ None) (h₅ : fault₅ s ≡ None) (h₇ : fault₇ s ≡ None) (h₈ : fault₈ s ≡ None) (h₉ : fault₉ s ≡ None) where
   -- a mark's target, by its number
   record AimedAt (r : Node) : Type 0 where
     x : Node
-    is : aim s r ≡ some x
+    is : aim s r ≡ Some x
     tree : In x (tree_elements s)
     num : aim_number s r ≡ number s x
 
@@ -86,12 +89,12 @@ module _ (s : Recipe) (h₄ : fault₄ s ≡ none) (h₅ : fault₅ s ≡ none) 
       (λ l. one-owner s h₄ h₅ h₉ q r i j k l
       (number-inj s h₇ (owner s q) (owner s r) (owner-in s h₅ q (mark-pointer s q i) (inr k)) (owner-in s h₅ r (mark-pointer s r j) (inr l)) (sym (from-by q k) ∙ e ∙ from-by r l)))
       (λ l. let n : B.x ≡ owner s q = number-inj s h₇ B.x (owner s q) B.tree (owner-in s h₅ q (mark-pointer s q i) (inr k)) (sym B.num ∙ sym (from-rep r l) ∙ sym e ∙ from-by q k) in
-      absurd (owner-free s h₄ h₅ h₉ r q q j i (step-rep r.place b l) k (B.is ∙ ap some n))))
+      absurd (owner-free s h₄ h₅ h₉ r q q j i (step-rep r.place b l) k (B.is ∙ ap Some n))))
       (λ k. by_cases (is_replaced_by s r.place)
       (λ l. let n : A.x ≡ owner s r = number-inj s h₇ A.x (owner s r) A.tree (owner-in s h₅ r (mark-pointer s r j) (inr l)) (sym A.num ∙ sym (from-rep q k) ∙ e ∙ from-by r l) in
-      absurd (owner-free s h₄ h₅ h₉ q r r i j (step-rep q.place a k) l (A.is ∙ ap some n)))
+      absurd (owner-free s h₄ h₅ h₉ q r r i j (step-rep q.place a k) l (A.is ∙ ap Some n)))
       (λ l. let n : B.x ≡ A.x = number-inj s h₇ B.x A.x B.tree A.tree (sym B.num ∙ sym (from-rep r l) ∙ sym e ∙ from-rep q k ∙ A.num) in
-      one-mark s h₄ h₅ h₉ q r A.x i j A.is (B.is ∙ ap some n)))
+      one-mark s h₄ h₅ h₉ q r A.x i j A.is (B.is ∙ ap Some n)))
 
   -- one more mark
   pub went-more : (D : Node → Type 0) (el : List ℕ) (r : Node) → In r (tree_marks s) → is_owned s r.place ≡ true → 5 * from_of s r + 3 < length el → Went s D el
@@ -140,7 +143,7 @@ module _ (s : Recipe) (h₄ : fault₄ s ≡ none) (h₅ : fault₅ s ≡ none) 
       by-option (first (replaces s x) (tree_marks s))
       (λ p. by-option (first (owns_by s x) (tree_marks s))
       (λ p'.
-      let z : step s x ≡ none = step-none s h₄ h₅ h₉ x
+      let z : step s x ≡ None = step-none s h₄ h₅ h₉ x
       (λ r j. none_first (replaces s x) (tree_marks s) r p j) (λ r j. none_first (owns_by s x) (tree_marks s) r p' j) in
       rw (z, step_of)
       (w.others x i
@@ -151,29 +154,25 @@ module _ (s : Recipe) (h₄ : fault₄ s ≡ none) (h₅ : fault₅ s ≡ none) 
       (λ k.
       let A = the-aim r j in
       let n : A.x ≡ x = number-inj s h₇ A.x x A.tree i (sym A.num ∙ sym (from-rep r k) ∙ e) in
-      not-both (both (step-rep r.place a k) (aimed s r x (A.is ∙ ap some n))) (none_first (replaces s x) (tree_marks s) r p j)))))
+      not-both (both (step-rep r.place a k) (aimed s r x (A.is ∙ ap Some n))) (none_first (replaces s x) (tree_marks s) r p j)))))
       (λ r p'.
       let f = some_first (owns_by s x) (tree_marks s) r p' in
       let k : is_replaced_by s r.place ≡ true = and_left (is_replaced_by s r.place) _ f.1 in
       let n : x ≡ owner s r = same-node x (owner s r) (and_right (is_replaced_by s r.place) _ f.1) in
       let A = the-aim r f.0 in
-      let z : step s x ≡ some A.x = ap (step s) n ∙ step_down_lem s h₄ h₅ h₉ r f.0 k ∙ A.is in
+      let z : step s x ≡ Some A.x = ap (step s) n ∙ step_down_lem s h₄ h₅ h₉ r f.0 k ∙ A.is in
       ap (λ (y : ℕ). get_or el (5 * y + 3) 0) (ap (number s) n ∙ sym (from-by r k))
       ∙ w.has r f.0 (by-step r k) tt ∙ to-by r k ∙ ap (λ (y : ℕ). y + 1) A.num ∙ rw (z, step_of)))
       (λ r p.
       let f = some_first (replaces s x) (tree_marks s) r p in
       let k : is_replacement s r.place ≡ true = and_left (is_replacement s r.place) _ f.1 in
-      let a : aim s r ≡ some x = aims s r x (and_right (is_replacement s r.place) _ f.1) in
-      let z : step s x ≡ some (owner s r) = step-up s h₄ h₅ h₉ r x f.0 k a in
+      let a : aim s r ≡ Some x = aims s r x (and_right (is_replacement s r.place) _ f.1) in
+      let z : step s x ≡ Some (owner s r) = step-up s h₄ h₅ h₉ r x f.0 k a in
       ap (λ (y : ℕ). get_or el (5 * y + 3) 0) (sym (aimed-is s r x a) ∙ sym (from-rep r (not-by r k)))
       ∙ w.has r f.0 (rep_step r k) tt ∙ to-rep r (not-by r k) ∙ rw (z, step_of))
 
--- the steps of one record, along the instances
-abbrev pub Stepped : Recipe → ℕ → List ℕ → ℕ → Type 0
-Stepped s p el v = Along s p (λ D. Went s D el) v
-
--- ---- one record, along the instances of its definition
-module _ {s : Recipe} {t inst : List ℕ} (T : MarksRequires s t inst) (h₉ : fault₉ s ≡ none) (p : ℕ) (here : In p (places s)) (st : is_owned s p ≡ true) where
+-- ---- one record, in the instances of its definition
+module _ {s : Recipe} {t inst : List ℕ} (T : MarksRequires s t inst) (h₉ : fault₉ s ≡ None) (p : ℕ) (here : In p (places s)) (st : is_owned s p ≡ true) where
   is-step-mark : is_mark s p ≡ true
   is-step-mark = ⊎_elim (replacement-mark s p) (replaced-by-mark s p) (or_cases (is_replacement s p) (is_replaced_by s p) st)
 
@@ -222,15 +221,15 @@ module _ {s : Recipe} {t inst : List ℕ} (T : MarksRequires s t inst) (h₉ : f
     pub stepped-only : {a el el' : List ℕ} → el' ≡ stepped el k (f + e) (f + o) → Only 3 a el → Only 3 a el'
     stepped-only {a} {el} r q = rw (r ∙ stepped-is el) (only_set (omega arith) q (from_of s this) (to_of s this))
 
-  pub step_start : {h v : ℕ} (el : List ℕ) → h ≡ get_or t (p + 0) 0 → v ≡ get_or t (h + 8) 0 → Went s (λ q. q.place < p) el → Stepped s p el v
-  step_start el a b w = begin T (is_owned s) (λ D. Went s D el) (went-same s el) p here a b w
+  -- the turn of instance i: what is read, and the table behind it
+  module _ {W : (Node → Type 0) → Type 0} {a b : InstancesOf} (i : ℕ) (g : Following s inst p W a) (z : StepsTo a (Some i) b) where
+    pub step-read : {e o f : ℕ} → e ≡ get_or t (p + 9) 0 → (owned_kind (get_or s.bytes p 0) ≡ true → o ≡ get_or t (get_or t (p + 3) 0 + 1) 0) → f ≡ get_or inst (6 * i + 2) 0
+        → Read s t inst p i (get_or s.bytes p 0) e o f
+    step-read re ro rf = record { holds = follows-holds T p here g z; kind-is = refl; target_is = re; owner-is = ro; first-is = rf }
 
-  pub step-turn : {v k e o f x : ℕ} (el : List ℕ) {el' : List ℕ} → Read s t inst p (v - 1) k e o f → 5 * 1024 ≤ length el
-      → el' ≡ stepped el k (f + e) (f + o) → Stepped s p el v → (v ≡ 0 → ⊥) → x ≡ get_or inst (6 * (v - 1) + 5) 0 → Stepped s p el' x
-  step-turn {v} {k} {e} {o} {f} el w l r a n y =
+  pub step-turn : {a b : InstancesOf} {i k e o f : ℕ} (el : List ℕ) {el' : List ℕ} → Read s t inst p i k e o f → 5 * 1024 ≤ length el → el' ≡ stepped el k (f + e) (f + o)
+      → Following s inst p (λ D. Went s D el) a → StepsTo a (Some i) b → Following s inst p (λ D. Went s D el') b
+  step-turn {i = i} {k} {e} {o} {f} el w l r g z =
       rw r
-      (turn T (is_owned s) (λ D. Went s D (stepped el k (f + e) (f + o))) (went-same s (stepped el k (f + e) (f + o))) p here (λ D. Went s D el) a n y
-      (λ g. stepped-one w el (Done s p (v - 1)) l g))
-
-  pub step_end : {v : ℕ} (el : List ℕ) → Stepped s p el v → v ≡ 0 → Went s (λ q. q.place < next s p) el
-  step_end el a z = finish T (is_owned s) (λ D. Went s D el) (went-same s el) p here a z
+      (follow-on T p here (is_owned s) (λ D. Went s D (stepped el k (f + e) (f + o))) (went-same s (stepped el k (f + e) (f + o))) g z
+      (λ v. stepped-one w el (Done s p i) l v))

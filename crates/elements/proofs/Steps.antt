@@ -1,10 +1,10 @@
 -- Where rows 4, 5 and 9 are clear, an element's step in the chain is given by one mark: so a table of steps may be filled mark by mark.
 -- Assumes nothing.
+use Rattle.std.specs.Prelude.{None, Some}
 use Prim.Native.Nat.{◌<◌, suc, ℕ}
 use borrow.Author.Tests.{eq-eqb, lt-ltb}
 use mathlib.Core.Bool.{◌&&◌, ◌||◌, false, true}
 use mathlib.Core.List.{◌++◌, append_cancel_right}
-use mathlib.Core.Option.{none, some}
 use mathlib.Core.Path.{◌∙◌, ◌≡◌, ap, sym}
 use native.Mathlib.Decide.{dec_le}
 use native.Mathlib.Omega.{arith}
@@ -23,9 +23,9 @@ use Rattle.marks.specs.Marks.{aim, from, marks_clash, owner, owner_clash, owns_b
 use Rattle.marks.proofs.Conflicts.{marks-conflict, no-conflict, owner-conflict, owner-conflict'}
 use Rattle.marks.proofs.Marks.{aim-target, aimed, aims, is-mark, mark-place, mark-pointer, pointer-holder}
 
-module _ (s : Recipe) (h₄ : fault₄ s ≡ none) (h₅ : fault₅ s ≡ none) (h₉ : fault₉ s ≡ none) where
+module _ (s : Recipe) (h₄ : fault₄ s ≡ None) (h₅ : fault₅ s ≡ None) (h₉ : fault₉ s ≡ None) where
   -- two marks with one target are one
-  pub one-mark : (q r x : Node) → In q (tree_marks s) → In r (tree_marks s) → aim s q ≡ some x → aim s r ≡ some x → q ≡ r
+  pub one-mark : (q r x : Node) → In q (tree_marks s) → In r (tree_marks s) → aim s q ≡ Some x → aim s r ≡ Some x → q ≡ r
   unfolding marks_clash same_aim from node
   one-mark q r x i j a b =
       let qr : same_aim s q r ≡ true = rw b (aimed s q x a) in
@@ -48,7 +48,7 @@ module _ (s : Recipe) (h₄ : fault₄ s ≡ none) (h₅ : fault₅ s ≡ none) 
 
   -- a replaced-by's owner is no mark's target
   pub owner-free : (q r x : Node) → In q (tree_marks s) → In r (tree_marks s) → is_replacement s q.place ≡ true → is_replaced_by s r.place ≡ true
-      → aim s q ≡ some (owner s r) → ⊥
+      → aim s q ≡ Some (owner s r) → ⊥
   unfolding owner_clash
   owner-free q r x i j k b a =
       let c : owner_clash s r q ≡ true = both b (aimed s q (owner s r) a) in
@@ -61,7 +61,7 @@ module _ (s : Recipe) (h₄ : fault₄ s ≡ none) (h₅ : fault₅ s ≡ none) 
       ]
 
   -- a replacement gives its target's step
-  pub step-up : (r x : Node) → In r (tree_marks s) → is_replacement s r.place ≡ true → aim s r ≡ some x → step s x ≡ some (owner s r)
+  pub step-up : (r x : Node) → In r (tree_marks s) → is_replacement s r.place ≡ true → aim s r ≡ Some x → step s x ≡ Some (owner s r)
   unfolding step replaces
   step-up r x i k a =
       by-option (first (replaces s x) (tree_marks s))
@@ -69,10 +69,10 @@ module _ (s : Recipe) (h₄ : fault₄ s ≡ none) (h₅ : fault₅ s ≡ none) 
       (λ q p.
       let f = some_first (replaces s x) (tree_marks s) q p in
       let e : q ≡ r = one-mark q r x f.0 i (aims s q x (and_right (is_replacement s q.place) _ f.1)) a in
-      rw (p, step) (ap (λ (n : Node). some (owner s n)) e))
+      rw (p, step) (ap (λ (n : Node). Some (owner s n)) e))
 
   -- no mark, no step
-  pub step-none : (x : Node) → ((r : Node) → In r (tree_marks s) → replaces s x r ≡ false) → ((r : Node) → In r (tree_marks s) → owns_by s x r ≡ false) → step s x ≡ none
+  pub step-none : (x : Node) → ((r : Node) → In r (tree_marks s) → replaces s x r ≡ false) → ((r : Node) → In r (tree_marks s) → owns_by s x r ≡ false) → step s x ≡ None
   unfolding step step_down
   step-none x a b =
       by-option (first (replaces s x) (tree_marks s))

@@ -4,9 +4,7 @@
 #![tactic(auto)]
 
 ghost use Rattle.std.specs.Prelude.{◌≡◌, true, ◌||◌, ◌*◌, ◌+◌, ◌≤◌, ◌<◌, length, set};
-ghost use Rattle.std.proofs.Math.Option.{none};
 ghost use Rattle.names.specs.Lists.{In};
-ghost use Rattle.names.specs.Scans.{found_of};
 ghost use Rattle.recipe.specs.Records.{recipe_at, places, is_element, is_owned, is_replaced_by, next};
 ghost use Rattle.tree.specs.Tree.{tree_elements};
 ghost use Rattle.marks.specs.Faults.{fault₉, aims_at_gone, fault₁₁};
@@ -16,9 +14,9 @@ ghost use Rattle.elements.specs.Gone.{Element, GoneAt};
 ghost use Rattle.elements.specs.Listing.{Listed, Only};
 ghost use Rattle.elements.specs.Steps.{NoSteps, Went, stepped};
 
-use names::Found;
-use shadow::{DEFINITION_OF, ELEMENT_ORDER, FIRST_INSTANCE, PARENT, TARGET_NUMBER, cell, set_cell};
-use tree::{FIRST_ELEMENT, NEXT_SAME};
+use recipe::Records;
+use shadow::{ELEMENT_ORDER, PARENT, TARGET_NUMBER, cell, set_cell};
+use tree::{FIRST_ELEMENT, InstancesOf};
 
 // The columns of an element.
 pub const RECORD: usize = 0;
@@ -45,14 +43,9 @@ fn elements_at(s: &[u8], w: usize, p: usize, t: &[u16], inst: &[u16], el: &mut [
     ensures { Listed (recipe_at w s.now) (λ x. x.place < next (recipe_at w s.now) p) el.new × (length el.new ≡ length el.old) }
 {
     let o = cell(t, p, ELEMENT_ORDER);
-    let h = cell(t, p, DEFINITION_OF);
-    let mut v = cell(t, h, FIRST_INSTANCE);
-    while v != 0 {
-        let i = v - 1;
-        let row = 6 * i;
-        let f = cell(inst, row, FIRST_ELEMENT);
+    for i in InstancesOf::record(t, inst, p) {
+        let f = cell(inst, 6 * i, FIRST_ELEMENT);
         put_element(el, f + o, p, i);
-        v = cell(inst, row, NEXT_SAME);
     }
 }
 
@@ -61,15 +54,9 @@ pub fn list_elements(s: &[u8], w: usize, t: &[u16], inst: &[u16], el: &mut [u16]
     requires { MarksRequires (recipe_at w s.now) t.now inst.now × (5 * 1024 ≤ length el.old) }
     ensures { Listed (recipe_at w s.now) (λ x. Unit {0}) el.new × (length el.new ≡ length el.old) }
 {
-    let mut p = 0;
-    while p < s.len() {
-        let k = s[p];
-        let next = p + recipe::record_length(k, w);
-        if k == 2 {
+    for p in Records::of(s, w) {
+        if s[p] == 2 {
             elements_at(s, w, p, t, inst, el);
-            p = next;
-        } else {
-            p = next;
         }
     }
 }
@@ -104,16 +91,10 @@ pub fn mark_gone(s: &[u8], w: usize, t: &[u16], cells: &[u8], el: &mut [u16], el
     requires { ElementsRequires (recipe_at w s.now) t.now × (AllStamped (recipe_at w s.now) cells.now × ((length cells.now ≡ 12 * 1024) × (ElementRows (recipe_at w s.now) el.old × (elems ≡ length (tree_elements (recipe_at w s.now)))))) }
     ensures { Gones (recipe_at w s.now) el.new × Only 2 el.old el.new }
 {
-    let mut e = 0;
-    while e < elems {
+    for e in 0..elems {
         let q = cell(el, 5 * e, RECORD);
-        if is_gone(s, w, t, cells, e, q) {
-            set_cell(el, 5 * e, GONE, 1);
-            e += 1;
-        } else {
-            set_cell(el, 5 * e, GONE, 0);
-            e += 1;
-        }
+        let gone = is_gone(s, w, t, cells, e, q);
+        set_cell(el, 5 * e, GONE, gone as usize);
     }
 }
 
@@ -123,38 +104,26 @@ fn aims_at_gone(s: &[u8], w: usize, p: usize, t: &[u16], inst: &[u16], el: &[u16
     ensures { result ≡ aims_at_gone (recipe_at w s.now) p }
 {
     let e = cell(t, p, TARGET_NUMBER);
-    let h = cell(t, p, DEFINITION_OF);
-    let mut v = cell(t, h, FIRST_INSTANCE);
-    while v != 0 {
-        let row = 6 * (v - 1);
-        let f = cell(inst, row, FIRST_ELEMENT);
+    for i in InstancesOf::record(t, inst, p) {
+        let f = cell(inst, 6 * i, FIRST_ELEMENT);
         if cell(el, 5 * (f + e), GONE) != 0 {
             return true;
         }
-        v = cell(inst, row, NEXT_SAME);
     }
     false
 }
 
 // Row 11: the first replaced-by whose target is gone, in the tree.
-pub fn first_lost(s: &[u8], w: usize, t: &[u16], inst: &[u16], el: &[u16]) -> Found
+pub fn first_lost(s: &[u8], w: usize, t: &[u16], inst: &[u16], el: &[u16]) -> Option<usize>
     requires { MarksRequires (recipe_at w s.now) t.now inst.now × (Gones (recipe_at w s.now) el.now × (5 * 1024 ≤ length el.now)) }
-    ensures { result ≡ found_of (fault₁₁ (recipe_at w s.now)) }
+    ensures { result ≡ fault₁₁ (recipe_at w s.now) }
 {
-    let mut p = 0;
-    while p < s.len() {
-        let k = s[p];
-        let next = p + recipe::record_length(k, w);
-        if recipe::is_replaced_by(k) {
-            if aims_at_gone(s, w, p, t, inst, el) {
-                return Found::At(p);
-            }
-            p = next;
-        } else {
-            p = next;
+    for p in Records::of(s, w) {
+        if recipe::is_replaced_by(s[p]) && aims_at_gone(s, w, p, t, inst, el) {
+            return Some(p);
         }
     }
-    Found::Nothing
+    None
 }
 
 // The step of a replacement or replaced-by: a is its target's number, b its owner's.
@@ -171,36 +140,26 @@ fn put_step(el: &mut [u16], k: u8, a: usize, b: usize)
 
 // The steps of the record at p, a replacement or replaced-by, in each instance of its definition.
 fn steps_at(s: &[u8], w: usize, p: usize, t: &[u16], inst: &[u16], el: &mut [u16])
-    requires { MarksRequires (recipe_at w s.now) t.now inst.now × (In p (places (recipe_at w s.now)) × ((is_owned (recipe_at w s.now) p ≡ true) × ((fault₉ (recipe_at w s.now) ≡ none) × (Went (recipe_at w s.now) (λ q. q.place < p) el.old × (5 * 1024 ≤ length el.old))))) }
+    requires { MarksRequires (recipe_at w s.now) t.now inst.now × (In p (places (recipe_at w s.now)) × ((is_owned (recipe_at w s.now) p ≡ true) × ((fault₉ (recipe_at w s.now) ≡ None) × (Went (recipe_at w s.now) (λ q. q.place < p) el.old × (5 * 1024 ≤ length el.old))))) }
     ensures { Went (recipe_at w s.now) (λ q. q.place < next (recipe_at w s.now) p) el.new × Only 3 el.old el.new }
 {
     let k = s[p];
     let e = cell(t, p, TARGET_NUMBER);
     let o = marks::owner_order(t, p, k);
-    let h = cell(t, p, DEFINITION_OF);
-    let mut v = cell(t, h, FIRST_INSTANCE);
-    while v != 0 {
-        let row = 6 * (v - 1);
-        let f = cell(inst, row, FIRST_ELEMENT);
+    for i in InstancesOf::record(t, inst, p) {
+        let f = cell(inst, 6 * i, FIRST_ELEMENT);
         put_step(el, k, f + e, f + o);
-        v = cell(inst, row, NEXT_SAME);
     }
 }
 
 // The chain's steps: of each element of the tree, one more than the number of the next, or 0.
 pub fn fill_steps(s: &[u8], w: usize, t: &[u16], inst: &[u16], el: &mut [u16])
-    requires { MarksRequires (recipe_at w s.now) t.now inst.now × ((fault₉ (recipe_at w s.now) ≡ none) × (NoSteps (recipe_at w s.now) el.old × (5 * 1024 ≤ length el.old))) }
+    requires { MarksRequires (recipe_at w s.now) t.now inst.now × ((fault₉ (recipe_at w s.now) ≡ None) × (NoSteps (recipe_at w s.now) el.old × (5 * 1024 ≤ length el.old))) }
     ensures { Nexts (recipe_at w s.now) el.new × Only 3 el.old el.new }
 {
-    let mut p = 0;
-    while p < s.len() {
-        let k = s[p];
-        let next = p + recipe::record_length(k, w);
-        if recipe::is_owned(k) {
+    for p in Records::of(s, w) {
+        if recipe::is_owned(s[p]) {
             steps_at(s, w, p, t, inst, el);
-            p = next;
-        } else {
-            p = next;
         }
     }
 }

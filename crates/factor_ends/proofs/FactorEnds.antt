@@ -1,10 +1,9 @@
 -- The end of the chain from the element that a factor names, in one instance.
 -- Assumes nothing.
+use Rattle.std.specs.Prelude.{None, Option, Some, unwrap_or}
 use Prim.Native.Nat.{◌+◌, ◌<◌, ◌≤◌, ℕ}
 use lib.ListN.{get_or, length}
 use mathlib.Core.List.{List}
-use mathlib.Core.Option
-use mathlib.Core.Option.{Option, none, some}
 use mathlib.Core.Path.{◌∙◌, ◌≡◌, ap, sym}
 use native.Mathlib.Omega.{arith}
 use Rattle.names.specs.Lists.{In}
@@ -22,18 +21,18 @@ use Rattle.references.proofs.Ends.{end-law, stepping}
 use Rattle.factor_ends.specs.FactorEnds.{ChainsRequires, Factor, FactorAt, FactorEnd, end_from}
 
 module _ {s : Recipe} {f q : ℕ} {path : List ℕ} {o : Option ℕ} (F : Factor s f q path o) where
-  named-is : (e : ℕ) → o ≡ some e → q ≡ e
-  named-is e n = F.is ∙ ap (λ (k : Option ℕ). Option.get_or k 0) n
+  named-is : (e : ℕ) → o ≡ Some e → q ≡ e
+  named-is e n = F.is ∙ ap (λ (k : Option ℕ). unwrap_or k 0) n
 
-  factor-none : q ≡ 0 → o ≡ none
+  factor-none : q ≡ 0 → o ≡ None
   unfolding node
   factor-none z =
       by-option o
       (λ n. n)
       (λ e n. absurd (not-zero s (definition_at s path) e (element-held s (node path e) (F.tree e n)).inside (sym (named-is e n) ∙ z)))
 
-  factor-some : (q ≡ 0 → ⊥) → o ≡ some q
-  factor-some z = by-option o (λ n. absurd (z (F.is ∙ ap (λ (k : Option ℕ). Option.get_or k 0) n))) (λ e n. n ∙ ap some (sym (named-is e n)))
+  factor-some : (q ≡ 0 → ⊥) → o ≡ Some q
+  factor-some z = by-option o (λ n. absurd (z (F.is ∙ ap (λ (k : Option ℕ). unwrap_or k 0) n))) (λ e n. n ∙ ap Some (sym (named-is e n)))
 
   factor-tree : (q ≡ 0 → ⊥) → In (node path q) (tree_elements s)
   factor-tree z = F.tree q (factor-some z)

@@ -1,18 +1,18 @@
 -- Row 20's pass: a factor of a kind 8 in one instance, whether it is at fault, and the search along the instances.
 -- Assumes nothing.
+use Rattle.std.specs.Prelude.{Some}
 use Prim.Native.Nat.{◌*◌, ◌+◌, ◌-◌, ◌≤◌, ℕ}
 use borrow.Author.Tests.{eqb-false, eqb-true}
 use lib.Dec.{eqb}
 use lib.ListN.{get_or, length}
 use mathlib.Core.Bool.{Bool, ◌&&◌, ◌||◌, false, not, true}
 use mathlib.Core.List.{List}
-use mathlib.Core.Option.{some}
 use mathlib.Core.Path.{◌∙◌, ◌≡◌, ap, refl, sym}
 use native.Mathlib.Omega.{arith}
 use Rattle.names.specs.Lists.{In}
 use Rattle.names.specs.Names.{field_at, is_blank}
 use Rattle.names.proofs.Tests.{by_cases, by-option}
-use Rattle.recipe.specs.Definitions.{element_in}
+use Rattle.recipe.specs.Definitions.{element_in, holder}
 use Rattle.recipe.specs.Records.{Recipe, byte, class, extent_field, field, is_factors, is_model, kind, next, places, time_field}
 use Rattle.recipe.proofs.Definitions.{element-in}
 use Rattle.recipe.proofs.Reading.{readable, readable-fits}
@@ -24,7 +24,7 @@ use Rattle.tree.proofs.Nodes.{in-nodes, node-holder, tree-in}
 use Rattle.marks.specs.Faults.{factor_named, has_factor_fault, is_factor, is_factor_fault, is_unfactored}
 use Rattle.marks.specs.Marks.{chain_end, is_gone}
 use Rattle.marks.proofs.Chain.{chain-in}
-use Rattle.marks.proofs.Threads.{SeekLoop, found-one, path, seek-end, seek-turn, this-in}
+use Rattle.marks.proofs.Threads.{Holds, found-one, path, this-in}
 use Rattle.elements.specs.Gone.{Numbers}
 use Rattle.elements.proofs.Elements.{place_is}
 use Rattle.elements.proofs.Gone.{gone-told}
@@ -75,7 +75,7 @@ module _ {s : Recipe} {f q at : ℕ} {x : Node} (F : FactorField s f q at x) whe
           (λ e k. let y : z ≡ number s (chain_end s (node x.path e)) + 1 = Z x.path _ of_field ∙ rw (k, end_from) in absurd (omega arith))
 
       module _ {t el : List ℕ} (C : ChainsRequires s t el) (n : z ≡ 0 → ⊥) where
-        reaches : (e : ℕ) × ((element_in s x.place the_field ≡ some e)
+        reaches : (e : ℕ) × ((element_in s x.place the_field ≡ Some e)
             × (In (chain_end s (node x.path e)) (tree_elements s) × (number s (chain_end s (node x.path e)) ≡ z - 1)))
         unfolding end_from chain_end
         reaches =
@@ -113,15 +113,16 @@ module _ {s : Recipe} {t inst el : List ℕ} (T : FactorsRequires s t inst el) (
   unfolding is_model
   no-model = rw kind-is
 
-  module _ {v f : ℕ} (a : SeekLoop s (is_factors s) p (has_factor_fault s) v) (n : v ≡ 0 → ⊥) (rf : f ≡ get_or inst (6 * (v - 1) + 2) 0) where
+  -- instance i is one of its definition, and f the number of the first element there
+  module _ (i : ℕ) (h : Holds s (holder s p) i) {f : ℕ} (rf : f ≡ get_or inst (6 * i + 2) 0) where
     abbrev this : Node
-    this = node (path s (v - 1)) p
+    this = node (path s i) p
 
     this-one : In this (nodes s (is_factors s))
-    this-one = this-in s (is_factors s) p (v - 1) here no-model sort (a.0.holds n)
+    this-one = this-in s (is_factors s) p i here no-model sort h
 
-    first-is : f ≡ first_at s (path s (v - 1))
-    first-is = rf ∙ T.targeted.planted.rows.start (v - 1) (a.0.holds n).0
+    first-is : f ≡ first_at s (path s i)
+    first-is = rf ∙ T.targeted.planted.rows.start i h.0
 
     pub time-at : {q : ℕ} → q ≡ get_or t (p + 3) 0 → FactorField s f q (p + 1 + s.width) this
     unfolding node time_field field
@@ -133,17 +134,10 @@ module _ {s : Recipe} {t inst el : List ℕ} (T : FactorsRequires s t inst el) (
 
     module _ {q r : ℕ} {b c : Bool} (rq : q ≡ get_or t (p + 3) 0) (rr : r ≡ get_or t (p + 5) 0)
         (hb : FactorFaultAt s f q (p + 1 + s.width) b) (hc : FactorFaultAt s f r (p + 1 + (s.width + s.width)) c) where
-      judged : b || c ≡ has_factor_fault s this
+      pub judged : b || c ≡ has_factor_fault s this
       unfolding has_factor_fault node time_field extent_field field
       judged = rw (hb this (time-at rq), hc this (extent-at rr))
 
       pub misfactored-hit : b || c ≡ true → true ≡ is_unfactored s p
       unfolding is_unfactored node
-      misfactored-hit h = sym (found-one s (is_factors s) p (has_factor_fault s) this this-one refl (sym judged ∙ h))
-
-      pub misfactored-turn : {u : ℕ} → b || c ≡ false → u ≡ get_or inst (6 * (v - 1) + 5) 0 → SeekLoop s (is_factors s) p (has_factor_fault s) u
-      misfactored-turn h y = seek-turn T.targeted (is_factors s) p here (has_factor_fault s) a n y (sym judged ∙ h)
-
-  pub misfactored-end : {v : ℕ} → SeekLoop s (is_factors s) p (has_factor_fault s) v → v ≡ 0 → false ≡ is_unfactored s p
-  unfolding is_unfactored
-  misfactored-end a z = sym (seek-end T.targeted (is_factors s) p here (has_factor_fault s) a z)
+      misfactored-hit e = sym (found-one s (is_factors s) p (has_factor_fault s) this this-one refl (sym judged ∙ e))

@@ -1,7 +1,6 @@
 -- 02's Paper 2, "Factors follow the chain as references do": the end of the chain from what a factor names, in numbers.
 -- Assumes nothing.
-use Rattle.std.specs.Prelude.{ℕ, ◌+◌, ◌≡◌, List}
-use Rattle.std.proofs.Math.Option.{Option, none, some, get_or}
+use Rattle.std.specs.Prelude.{ℕ, ◌+◌, ◌≡◌, List, None, Option, Some, unwrap_or}
 use Rattle.names.specs.Lists.{In}
 use Rattle.recipe.specs.Records.{Recipe}
 use Rattle.tree.specs.Numbers.{first_at, number}
@@ -12,8 +11,8 @@ use Rattle.elements.specs.Columns.{ElementRows, Gones, Nexts}
 
 -- one more than the number of the end of the chain from the element o of the instance at the path; 0 for none
 unfoldable pub end_from : Recipe → List ℕ → Option ℕ → ℕ
-end_from s path none = 0
-end_from s path (some e) = number s (chain_end s (node path e)) + 1
+end_from s path None = 0
+end_from s path (Some e) = number s (chain_end s (node path e)) + 1
 
 -- what it takes to follow a chain: the columns 0, 1 and 3 of the elements
 pub record ChainsRequires (s : Recipe) (t el : List ℕ) : Type 0 where
@@ -25,8 +24,8 @@ pub record ChainsRequires (s : Recipe) (t el : List ℕ) : Type 0 where
 pub record Factor (s : Recipe) (f q : ℕ) (path : List ℕ) (o : Option ℕ) : Type 0 where
   pub inside : In path (instances s)
   pub first : f ≡ first_at s path
-  pub is : q ≡ get_or o 0
-  pub tree : (e : ℕ) → o ≡ some e → In (node path e) (tree_elements s)
+  pub is : q ≡ unwrap_or o 0
+  pub tree : (e : ℕ) → o ≡ Some e → In (node path e) (tree_elements s)
 
 -- f and q stand for such a one
 pub record FactorAt (s : Recipe) (f q : ℕ) : Type 0 where

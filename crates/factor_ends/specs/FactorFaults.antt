@@ -1,7 +1,6 @@
 -- Row 20 by the numbers of its elements: whether an end does, and whether a factor is at fault.
 -- Assumes nothing.
-use Rattle.std.specs.Prelude.{ℕ, ◌+◌, ◌≤◌, ◌≡◌, Bool, length}
-use Rattle.std.proofs.Math.Option.{get_or}
+use Rattle.std.specs.Prelude.{ℕ, ◌+◌, ◌≤◌, ◌≡◌, Bool, length, unwrap_or}
 use Rattle.names.specs.Lists.{In}
 use Rattle.names.specs.Names.{field_at}
 use Rattle.recipe.specs.Definitions.{element_in}
@@ -19,7 +18,7 @@ pub record FactorField (s : Recipe) (f q at : ℕ) (x : Node) : Type 0 where
   pub inside : In x (nodes s (is_factors s))
   pub first : f ≡ first_at s x.path
   pub low : at + s.width ≤ length s.bytes
-  pub is : q ≡ get_or (element_in s x.place (field_at s.width s.bytes at)) 0
+  pub is : q ≡ unwrap_or (element_in s x.place (field_at s.width s.bytes at)) 0
 
 -- b says whether it is at fault
 abbrev pub FactorFaultAt : Recipe → ℕ → ℕ → ℕ → Bool → Type 0

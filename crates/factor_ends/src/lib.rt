@@ -4,7 +4,6 @@
 
 ghost use Rattle.std.specs.Prelude.{◌≡◌, true, ◌≤◌};
 ghost use Rattle.names.specs.Lists.{In};
-ghost use Rattle.names.specs.Scans.{found_of};
 ghost use Rattle.recipe.specs.Records.{recipe_at, places, is_factors};
 ghost use Rattle.tree.specs.Tree.{Node};
 ghost use Rattle.marks.specs.Faults.{is_unfactored, fault₂₀};
@@ -15,9 +14,9 @@ ghost use Rattle.factor_ends.specs.FactorEnds.{ChainsRequires, FactorAt, FactorE
 ghost use Rattle.factor_ends.specs.FactorFaults.{FactorField, FactorFaultAt, FactorTold};
 
 use elements::{GONE, RECORD};
-use names::Found;
-use shadow::{DEFINITION_OF, ELEMENT_ORDER, EXTENT_FACTOR, FIRST_INSTANCE, TIME_FACTOR, cell};
-use tree::{FIRST_ELEMENT, NEXT_SAME};
+use recipe::Records;
+use shadow::{ELEMENT_ORDER, EXTENT_FACTOR, TIME_FACTOR, cell};
+use tree::{FIRST_ELEMENT, InstancesOf};
 
 // One more than the number of the end of the chain from the element at q, in the instance whose first element has the number f; 0 where q is 0.
 pub fn factor_end(s: &[u8], w: usize, t: &[u16], el: &[u16], f: usize, q: usize) -> usize
@@ -64,38 +63,26 @@ fn misfactored_at(s: &[u8], w: usize, p: usize, t: &[u16], inst: &[u16], el: &[u
 {
     let a = cell(t, p, TIME_FACTOR);
     let b = cell(t, p, EXTENT_FACTOR);
-    let h = cell(t, p, DEFINITION_OF);
-    let mut v = cell(t, h, FIRST_INSTANCE);
-    while v != 0 {
-        let row = 6 * (v - 1);
-        let f = cell(inst, row, FIRST_ELEMENT);
+    for i in InstancesOf::record(t, inst, p) {
+        let f = cell(inst, 6 * i, FIRST_ELEMENT);
         let time = is_factor_fault(s, w, t, el, f, a, p + 1 + w);
         let extent = is_factor_fault(s, w, t, el, f, b, p + 1 + (w + w));
         if time | extent {
             return true;
         }
-        v = cell(inst, row, NEXT_SAME);
     }
     false
 }
 
 // Row 20: the first kind 8 of which a factor, in some instance of its definition, is no element, or ends gone or at another class than 3.
-pub fn first_misfactored(s: &[u8], w: usize, t: &[u16], inst: &[u16], el: &[u16]) -> Found
+pub fn first_misfactored(s: &[u8], w: usize, t: &[u16], inst: &[u16], el: &[u16]) -> Option<usize>
     requires { FactorsRequires (recipe_at w s.now) t.now inst.now el.now }
-    ensures { result ≡ found_of (fault₂₀ (recipe_at w s.now)) }
+    ensures { result ≡ fault₂₀ (recipe_at w s.now) }
 {
-    let mut p = 0;
-    while p < s.len() {
-        let k = s[p];
-        let next = p + recipe::record_length(k, w);
-        if k == 8 {
-            if misfactored_at(s, w, p, t, inst, el) {
-                return Found::At(p);
-            }
-            p = next;
-        } else {
-            p = next;
+    for p in Records::of(s, w) {
+        if s[p] == 8 && misfactored_at(s, w, p, t, inst, el) {
+            return Some(p);
         }
     }
-    Found::Nothing
+    None
 }

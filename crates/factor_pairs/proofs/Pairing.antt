@@ -1,16 +1,15 @@
 -- Row 19's pass: what a kind 8 is to the submodel that it names, and what a turn at a record does to the cells.
 -- Assumes nothing.
+use Rattle.std.specs.Prelude.{None, Option, Some, is_some, unwrap_or}
 use Prim.Native.Nat.{ℕ, ◌+◌, ◌≤◌, ◌<◌}
 use native.Mathlib.Omega.{arith}
 use mathlib.Core.Path.{◌≡◌, refl, sym, ap, ◌∙◌}
 use mathlib.Core.Bool.{true, false, not, ◌&&◌}
-use mathlib.Core.Option
-use mathlib.Core.Option.{Option, none, some}
 use mathlib.Core.List.{List, [], ◌∷◌}
 use lib.ListN.{length, get_or, set}
 use lib.Dec.{eqb, ltb}
 use borrow.Author.Tests.{eq-eqb, eqb-true, eqb-false, ne_eqb, lt-ltb, ltb-true}
-use Rattle.names.specs.Lists.{In, among, is_some}
+use Rattle.names.specs.Lists.{In, among}
 use Rattle.names.specs.Names.{text}
 use Rattle.names.proofs.Tests.{by_cases, by-option, both, and_left, and_right, or_right, not-both, three}
 use Rattle.names.proofs.Lists.{among_one, any-in, any_none, eq-same, first-is, first-none, none_first, same_true}
@@ -20,7 +19,7 @@ use Rattle.recipe.specs.Reading.{fault₄, gave_factors, is_factors_fault, fault
 use Rattle.recipe.proofs.Definitions.{submodel-named, in-submodels}
 use Rattle.recipe.proofs.Reading.{readable, first-model}
 use Rattle.recipe.proofs.Rows.{one-record}
-use Rattle.recipe.proofs.Going.{Going, going_start, going_on, going-hit, going_end, here, on-more}
+use Rattle.recipe.proofs.Going.{Going, Here, going_start, going_on, going-hit, going_end, here, on-more}
 use Rattle.shadow.specs.Shadow.{Shadowed}
 use Rattle.shadow.specs.Columns.{Linked, Paired, Unpaired}
 use Rattle.shadow.proofs.Cells.{Walking, walk_start, walk-one, walk-place, walk_end, before-next, cell-kept, cell_set, kept-all, kept_set, row_room}
@@ -49,7 +48,7 @@ module _ (s : Recipe) where
   unfolding scales
   scales-all {m} {f} h = both (both h.kinded (eq-eqb (holder s f) (holder s m) h.held)) (eq-same h.named)
 
-  module _ (p : ℕ) {m : ℕ} (e : scaled_by s p ≡ some m) where
+  module _ (p : ℕ) {m : ℕ} (e : scaled_by s p ≡ Some m) where
     pub scaled-in : In m (submodels s (holder s p))
     unfolding scaled_by
     scaled-in = (submodel-named s (holder s p) (text (first_field s p)) m e).0
@@ -74,16 +73,16 @@ module _ (s : Recipe) where
   not_first p i e n z = n (sym e ∙ rw z (eqb-true (kind s 0) 1 (first-model s (readable s 0 (rw z at i)))))
 
   -- cell 4 of a kind 8: 0 just where it names no submodel
-  module _ (p : ℕ) {m : ℕ} (e : m ≡ Option.get_or (scaled_by s p) 0) where
-    pub scaled-none : m ≡ 0 → scaled_by s p ≡ none
+  module _ (p : ℕ) {m : ℕ} (e : m ≡ unwrap_or (scaled_by s p) 0) where
+    pub scaled-none : m ≡ 0 → scaled_by s p ≡ None
     unfolding is_submodel
     scaled-none z =
         by-option (scaled_by s p) (λ o. o)
         (λ q o.
         absurd (not_first q (scaled-placed p o) (eqb-true (kind s q) 4 (scaled-submodel p o)) (λ y. omega arith) (sym (e ∙ rw o) ∙ z)))
 
-    pub scaled-some : (m ≡ 0 → ⊥) → scaled_by s p ≡ some m
-    scaled-some n = by-option (scaled_by s p) (λ o. absurd (n (e ∙ rw o))) (λ q o. o ∙ ap some (sym (e ∙ rw o)))
+    pub scaled-some : (m ≡ 0 → ⊥) → scaled_by s p ≡ Some m
+    scaled-some n = by-option (scaled_by s p) (λ o. absurd (n (e ∙ rw o))) (λ q o. o ∙ ap Some (sym (e ∙ rw o)))
 
   -- ---- row 19, of the record at p
   pub fault-other : (p : ℕ) → is_factors s p ≡ false → is_factors_fault s p ≡ false
@@ -91,7 +90,7 @@ module _ (s : Recipe) where
   fault-other p k = rw k
 
   module _ (p : ℕ) (k : is_factors s p ≡ true) where
-    pub fault-undeclared : scaled_by s p ≡ none → is_factors_fault s p ≡ true
+    pub fault-undeclared : scaled_by s p ≡ None → is_factors_fault s p ≡ true
     unfolding is_factors_fault
     fault-undeclared n = rw (k, n)
 
@@ -105,7 +104,7 @@ module _ (s : Recipe) where
         both (both (both u.kinded (lt-ltb f p l)) (eq-eqb (holder s f) (holder s p) (u.held ∙ sym v.held))) (eq-same (u.named ∙ sym v.named)) in
         both k (or_right (not (is_some (scaled_by s p))) _ (any-in (gave_factors s p) (places s) f i g))
 
-    pub fault-none : {m : ℕ} → scaled_by s p ≡ some m → ((f : ℕ) → In f (places s) → f < p → scales s m f ≡ false) → is_factors_fault s p ≡ false
+    pub fault-none : {m : ℕ} → scaled_by s p ≡ Some m → ((f : ℕ) → In f (places s) → f < p → scales s m f ≡ false) → is_factors_fault s p ≡ false
     unfolding is_factors_fault gave_factors
     fault-none {m} e h =
         let v = scaled-parts p e k in
@@ -125,7 +124,7 @@ module _ (s : Recipe) where
         (λ g. g)))
 
   -- a kind 8 is that of one submodel, where row 4 does not apply
-  one-scaled : fault₄ s ≡ none → {m n p : ℕ} → In m (places s) → is_submodel s m ≡ true → In n (places s) → is_submodel s n ≡ true → Scales m p → Scales n p → m ≡ n
+  one-scaled : fault₄ s ≡ None → {m n p : ℕ} → In m (places s) → is_submodel s m ≡ true → In n (places s) → is_submodel s n ≡ true → Scales m p → Scales n p → m ≡ n
   unfolding is_declared
   one-scaled h₄ {m} {n} i a j b u v =
       one-record s h₄ (holder s m) m n
@@ -154,41 +153,54 @@ module _ {s : Recipe} {t₀ : List ℕ} (L : Linked s t₀) where
     pub pair_place : In p (places s)
     pair_place = walk-place sh g.walking l
 
+    at : Here s (is_factors_fault s) p
+    at = here s (is_factors_fault s) p sh.whole g.going l
+
     -- a record of another kind
-    pub pair-skip : {n : ℕ} → n ≡ record_length s.width (get_or s.bytes p 0) → is_factors s p ≡ false → PairLoop s t₀ t (p + n)
-    unfolding scales
-    pair-skip e k = record {
-      walking = walk-one sh g.walking l e (kept-all s (5 ∷ []) t);
-      going = going_on (here s (is_factors_fault s) p sh.whole g.going l) (fault-other s p k) e;
-      pairs = record {
-        others = g.pairs.others;
-        free = λ m i j z f x u. before-next s p f pair_place x e u (λ y. g.pairs.free m i j z f x y) (λ y. rw (y, k));
-        given = λ m i j z. let h = g.pairs.given m i j z in record { placed = h.placed; earlier = omega (arith, h.earlier); is = h.is };
-      };
-    }
+    pub pair-skip : (get_or s.bytes p 0 ≡ 8 → ⊥) → PairLoop s t₀ t (p + record_length s.width (get_or s.bytes p 0))
+    unfolding scales is_factors kind
+    pair-skip n =
+        let k = ne_eqb (get_or s.bytes p 0) 8 n in
+        record {
+          walking = walk-one sh g.walking l refl (kept-all s (5 ∷ []) t);
+          going = going_on at (fault-other s p k) refl;
+          pairs = record {
+            others = g.pairs.others;
+            free = λ m i j z f x u. before-next s p f pair_place x refl u (λ y. g.pairs.free m i j z f x y) (λ y. rw (y, k));
+            given = λ m i j z. let h = g.pairs.given m i j z in record { placed = h.placed; earlier = omega (arith, h.earlier); is = h.is };
+          };
+        }
 
-    module _ (k : is_factors s p ≡ true) where
-      pub pair-hit : is_factors_fault s p ≡ true → fault₁₉ s ≡ some p
+    -- a kind 8, and the submodel m that cell 4 has
+    module _ (k₈ : get_or s.bytes p 0 ≡ 8) {m : ℕ} (e₄ : m ≡ get_or t (p + 4) 0) where
+      k : is_factors s p ≡ true
+      unfolding is_factors kind
+      k = eq-eqb (get_or s.bytes p 0) 8 k₈
+
+      m-is : m ≡ unwrap_or (scaled_by s p) 0
+      m-is = e₄ ∙ g.walking.kept.as-was p 4 pair_place (omega arith) refl ∙ L.scaled p pair_place k
+
+      pair-hit : is_factors_fault s p ≡ true → fault₁₉ s ≡ Some p
       unfolding fault₁₉
-      pair-hit f = going-hit (here s (is_factors_fault s) p sh.whole g.going l) f
+      pair-hit f = going-hit at f
 
-      -- what cell 4 has
-      pub pair-scaled : {m : ℕ} → m ≡ get_or t (p + 4) 0 → m ≡ Option.get_or (scaled_by s p) 0
-      pair-scaled e = e ∙ g.walking.kept.as-was p 4 pair_place (omega arith) refl ∙ L.scaled p pair_place k
+      -- there is none
+      pub pair-undeclared : m ≡ 0 → fault₁₉ s ≡ Some p
+      pair-undeclared z = pair-hit (fault-undeclared s p k (scaled-none s p m-is z))
 
-      module _ {m : ℕ} (e : scaled_by s p ≡ some m) where
+      module _ (some : m ≡ 0 → ⊥) where
+        e : scaled_by s p ≡ Some m
+        e = scaled-some s p m-is some
+
         pub pair-room : m + 13 ≤ length t
         pair-room = omega (arith, row_room sh m (scaled-placed s p e), g.walking.kept.long)
 
-        -- it has its factors already
-        pub pair-twice : {c : ℕ} → c ≡ get_or t (m + 5) 0 → (c ≡ 0 → ⊥) → is_factors_fault s p ≡ true
-        pair-twice q n =
-            let h = g.pairs.given m (scaled-placed s p e) (scaled-submodel s p e) (λ z. n (q ∙ z)) in
-            fault-twice s p k m (get_or t (m + 5) 0) h.placed h.earlier h.is (scales-all s (scaled-parts s p e k))
-
-        module _ {c : ℕ} (q : c ≡ get_or t (m + 5) 0) (z : c ≡ 0) {n : ℕ} (r : n ≡ record_length s.width (get_or s.bytes p 0)) where
-          more : 1 ≤ n
-          more = on-more _ _ r
+        module _ {c : ℕ} (q : c ≡ get_or t (m + 5) 0) where
+          -- it has its factors already
+          pub pair-twice : (c ≡ 0 → ⊥) → fault₁₉ s ≡ Some p
+          pair-twice n =
+              let h = g.pairs.given m (scaled-placed s p e) (scaled-submodel s p e) (λ z. n (q ∙ z)) in
+              pair-hit (fault-twice s p k m (get_or t (m + 5) 0) h.placed h.earlier h.is (scales-all s (scaled-parts s p e k)))
 
           off : (x : ℕ) → In x (places s) → (m ≡ x → ⊥) → get_or (set t (m + 5) p) (x + 5) 0 ≡ get_or t (x + 5) 0
           off x i h = cell-kept sh t m 5 p x 5 (scaled-placed s p e) i (omega arith) (omega arith) (λ y. absurd (h y))
@@ -202,24 +214,25 @@ module _ {s : Recipe} {t₀ : List ℕ} (L : Linked s t₀) where
               (λ b. absurd (h (one-scaled s L.row₄ (scaled-placed s p e) (scaled-submodel s p e) i j (scaled-parts s p e k) (scales-parts s b))))
               (λ b. b)
 
-          pub pair_one : PairLoop s t₀ (set t (m + 5) p) (p + n)
+          pub pair_one : c ≡ 0 → PairLoop s t₀ (set t (m + 5) p) (p + record_length s.width (get_or s.bytes p 0))
           unfolding is_factors is_submodel
-          pair_one = record {
-            walking = walk-one sh g.walking l r (kept_set m 5 p sh (kept-all s (5 ∷ []) t) (scaled-placed s p e) (omega arith) refl);
-            going = going_on (here s (is_factors_fault s) p sh.whole g.going l)
-                (fault-none s p k e (λ f i u. g.pairs.free m (scaled-placed s p e) (scaled-submodel s p e) (sym q ∙ z) f i u)) r;
+          pair_one z = record {
+            walking = walk-one sh g.walking l refl (kept_set m 5 p sh (kept-all s (5 ∷ []) t) (scaled-placed s p e) (omega arith) refl);
+            going = going_on at (fault-none s p k e (λ f i u. g.pairs.free m (scaled-placed s p e) (scaled-submodel s p e) (sym q ∙ z) f i u)) refl;
             pairs = record {
               others = λ x i h. off x i (λ y. h (rw (sym y) (eqb-true (kind s m) 4 (scaled-submodel s p e)))) ∙ g.pairs.others x i h;
               free = λ x i j y f a u.
                   by_cases (eqb m x)
                   (λ b. absurd (not_first s p pair_place (eqb-true (kind s p) 8 k) (λ v. omega arith) (sym on ∙ ap (λ (i : ℕ). get_or (set t (m + 5) p) (i + 5) 0) (eqb-true m x b) ∙ y)))
                   (λ b.
-                  before-next s p f pair_place a r u
+                  before-next s p f pair_place a refl u
                   (λ v. g.pairs.free x i j (sym (off x i (eqb-false m x b)) ∙ y) f a v)
                   (λ v. rw v (not-its x i j (eqb-false m x b))));
               given = λ x i j y.
                   by_cases (eqb m x)
-                  (λ b. rw (← eqb-true m x b, on) (record { placed = pair_place; earlier = omega (arith, more); is = scales-all s (scaled-parts s p e k) }))
+                  (λ b.
+                  rw (← eqb-true m x b, on)
+                  (record { placed = pair_place; earlier = omega (arith, on-more s.width (get_or s.bytes p 0) refl); is = scales-all s (scaled-parts s p e k) }))
                   (λ b.
                   let h = g.pairs.given x i j (λ v. y (off x i (eqb-false m x b) ∙ v)) in
                   rw (off x i (eqb-false m x b)) (record { placed = h.placed; earlier = omega (arith, h.earlier); is = h.is }));
@@ -228,7 +241,7 @@ module _ {s : Recipe} {t₀ : List ℕ} (L : Linked s t₀) where
 
   -- ---- at the end
   module _ {t : List ℕ} {p : ℕ} (g : PairLoop s t₀ t p) (l : length s.bytes ≤ p) where
-    pub pair-none : fault₁₉ s ≡ none
+    pub pair-none : fault₁₉ s ≡ None
     unfolding fault₁₉
     pair-none = going_end g.going l
 
@@ -255,9 +268,9 @@ module _ {s : Recipe} {t₀ : List ℕ} (L : Linked s t₀) where
           by_cases (eqb (get_or t (m + 5) 0) 0)
           (λ b.
           let z = eqb-true (get_or t (m + 5) 0) 0 b in
-          z ∙ sym (ap (λ (o : Option ℕ). Option.get_or o 0) (first-none (scales s m) (places s) (λ f j. g.pairs.free m i k z f j (walk_end sh g.walking l f j)))))
+          z ∙ sym (ap (λ (o : Option ℕ). unwrap_or o 0) (first-none (scales s m) (places s) (λ f j. g.pairs.free m i k z f j (walk_end sh g.walking l f j)))))
           (λ b.
           let h = g.pairs.given m i k (eqb-false (get_or t (m + 5) 0) 0 b) in
-          sym (ap (λ (o : Option ℕ). Option.get_or o 0)
+          sym (ap (λ (o : Option ℕ). unwrap_or o 0)
           (first-is (scales s m) (places s) (get_or t (m + 5) 0) h.placed h.is (λ f j u. one-kind m f (get_or t (m + 5) 0) j h.placed u h.is))));
     }

@@ -1,9 +1,10 @@
 -- The answer as it is found: by composing, then by the rooms; and both outputs then.
 -- Assumes nothing.
+use Rattle.names.specs.declared.Reason.TheVariants.{NoRoom}
+use Rattle.std.specs.Prelude.{Some}
 use mathlib.Core.Path.{◌≡◌, refl, sym, ap, ◌∙◌}
 use mathlib.Core.List.{List, [], ◌∷◌, ◌++◌}
 use mathlib.Core.Bool.{◌||◌}
-use mathlib.Core.Option.{some}
 use Prim.Native.Nat.{ℕ, ◌*◌, ◌≤◌, ◌<◌}
 use native.Mathlib.Omega.{arith}
 use native.Mathlib.Nat.{mul_comm}
@@ -11,8 +12,8 @@ use lib.Dec.{ltb}
 use lib.ListN.{length, drop}
 use borrow.Author.Tests.{eq-eqb, le-ltb, lt-ltb, ltb-false, ne_eqb}
 use Rattle.names.specs.declared.Refusal.{Refusal}
-use Rattle.names.specs.Judging.{are_refusals, handed, judged, refusal_at, row}
-use Rattle.names.proofs.Judging.{handed-some, judged-none, none-judged, refusal-number, row-applies}
+use Rattle.names.specs.Judging.{judged, row_number, row}
+use Rattle.names.proofs.Judging.{judged-none, none-judged, number-positive, row-applies}
 use Rattle.names.proofs.Tests.{by-option, or-none-left, or-none-right, or_right}
 use Rattle.flat_table.specs.Table.{flat_length}
 use Rattle.recipe.specs.Reading.{at_start}
@@ -41,25 +42,25 @@ module _ (s : Recipe) (room companion_room : ℕ) where
   entry_bytes = entry_length s.width * length (rated s)
 
   -- a refusal by the recipe is the answer, whatever the rooms
-  pub factors-refuses : (r : Refusal) → refusal_of s ≡ some r → factors_verdict s room companion_room ≡ factors_refused r.number r.place
+  pub factors-refuses : (r : Refusal) → refusal_of s ≡ Some r → factors_verdict s room companion_room ≡ factors_refused (row_number r.reason) r.place
   unfolding factors_verdict factors_refused_or
   factors-refuses r e = rw e
 
   -- where there is none the rooms decide
   decides : Unrefused s
       → factors_verdict s room companion_room
-      ≡ factors_refused_or (judged (row 13 (both_fault₁₃ s room companion_room) ∷ [])) (factors_accepted s.width (length (survivors s)) (length (rated s)))
+      ≡ factors_refused_or (judged (row NoRoom (both_fault₁₃ s room companion_room) ∷ [])) (factors_accepted s.width (length (survivors s)) (length (rated s)))
   unfolding factors_verdict refusal_of factors_refused_or
   decides h = rw (none-judged (refusal_rows s) h)
 
   pub factors-unrefused : (factors_verdict s room companion_room).number ≡ 0 → Unrefused s
-  unfolding refusal_of factors_refused are_refusals
+  unfolding refusal_of factors_refused
   factors-unrefused e =
       by-option (refusal_of s)
       (judged-none (refusal_rows s))
       (λ r f.
       let n = ap (λ (a : FactorsAnswer). a.number) (sym (factors-refuses r f)) ∙ e in
-      absurd (omega (arith, refusal-number (refusal_rows s) refl r f)))
+      absurd (omega (arith, number-positive r.reason)))
 
   pub table-lacks : Unrefused s → room < flat_length s.width * length (survivors s) → factors_verdict s room companion_room ≡ factors_refused 13 0
   unfolding both_fault₁₃ at_start factors_refused_or judged
@@ -90,7 +91,7 @@ module _ (s : Recipe) (room companion_room : ℕ) where
       let n = not-at-start (a || b) f in
       (ltb-false room _ (or-none-left a b n), ltb-false companion_room _ (or-none-right a b n)))
       (λ p f.
-      let d : factors_verdict s room companion_room ≡ factors_refused 13 p = decides (factors-unrefused e) ∙ rw (row-applies 13 [] f) in
+      let d : factors_verdict s room companion_room ≡ factors_refused 13 p = decides (factors-unrefused e) ∙ rw (row-applies NoRoom [] f) in
       let n = ap (λ (a : FactorsAnswer). a.number) (sym d) ∙ e in
       absurd (omega arith))
 
@@ -108,9 +109,8 @@ module _ (s : Recipe) (out entries : List ℕ) where
       let m : a.number ≡ 0 → ⊥ = λ k. z (ap (λ (b : FactorsAnswer). b.number) (sym v) ∙ k) in
       (e ∙ sym v, (sym (filled-not a (flat s) out m), sym (filled-not a (companion s) entries m)))
 
-  pub compose-outcome : (n p : ℕ) → refusal_at n p ≡ handed (judged (refusal_rows s)) → (n ≡ 0 → ⊥) → {r : FactorsAnswer} → r ≡ factors_refused n p → Outcome s out entries r out entries
-  unfolding refusal_of
-  compose-outcome n p h z e = refused-outcome n p z e (factors-refuses s (length out) (length entries) (refusal_at n p) (handed-some (judged (refusal_rows s)) h z))
+  pub compose-outcome : (q : Refusal) → Some q ≡ refusal_of s → {r : FactorsAnswer} → r ≡ factors_refused (row_number q.reason) q.place → Outcome s out entries r out entries
+  compose-outcome q h e = refused-outcome (row_number q.reason) q.place (λ z. omega (arith, number-positive q.reason, z)) e (factors-refuses s (length out) (length entries) q (sym h))
 
   module _ (h : Unrefused s) {n k row : ℕ} (n-is : n ≡ length (survivors s)) (k-is : k ≡ length (rated s)) (row_is : row ≡ flat_length s.width) where
     product : n * row ≡ flat_length s.width * length (survivors s)

@@ -1,12 +1,12 @@
 -- The entries of the companion: which elements have one, the bytes of each, and how they are written.
 -- Assumes nothing.
+use Rattle.std.specs.Prelude.{None, Option, Some}
 use mathlib.Core.Path.{◌≡◌, refl, sym, ap, ◌∙◌}
 use Prim.Native.Nat.{ℕ, ◌+◌, ◌*◌, ◌≤◌, ◌<◌}
 use native.Mathlib.Omega.{arith}
 use native.Mathlib.Nat.{add-zero}
 use native.Mathlib.Numerals.{add-one}
 use mathlib.Core.Bool.{false, not, ◌||◌}
-use mathlib.Core.Option.{Option, none, some}
 use mathlib.Core.List.{List, [], ◌++◌, map, append-nil}
 use lib.Dec.{eqb}
 use lib.ListN.{length, get_or, set, take, drop, length-append}
@@ -66,7 +66,7 @@ module _ {s : Recipe} {el : List ℕ} (R : EntryRequires s el) {e : ℕ} (l : e 
     rated-entry h z = rw (survives-at R.fates l h z, class-is R.fates.row₇ R.elements e l q-is)
 
 -- ---- its bytes
-module _ (s : Recipe) (two : 2 ≤ s.width) (h₃ : fault₃ s ≡ none) (h₅ : fault₅ s ≡ none) (h₇ : fault₇ s ≡ none) where
+module _ (s : Recipe) (two : 2 ≤ s.width) (h₃ : fault₃ s ≡ None) (h₅ : fault₅ s ≡ None) (h₇ : fault₇ s ≡ None) where
   module _ (p : List ℕ) (i : In p (instances s)) where
     pub field-long : (j : ℕ) → length (flat_field s (factor_field s p j)) ≡ flat_width s.width
     field-long j = field-bytes s two h₃ h₇ (factor_field s p j) (λ y n. field_in s h₅ h₇ p i j y n)
@@ -174,7 +174,7 @@ module _ {s : Recipe} {el pre len sites : List ℕ} {elems : ℕ} (R : Companion
   two : 2 ≤ s.width
   two = omega (arith, R.entries.naming.wide)
 
-  h₇ : fault₇ s ≡ none
+  h₇ : fault₇ s ≡ None
   h₇ = R.entries.naming.small
 
   pub companion-room : {n : ℕ} → entry_length s.width * length (rated s) ≤ n → length (joined (map (companion_record s) (keep (is_entry s) (tree_elements s)))) ≤ n
@@ -216,7 +216,7 @@ module _ {s : Recipe} {el pre len sites : List ℕ} {elems : ℕ} (R : Companion
         unfolding companion_record flat_field
         entry-written out at {f} row {out₁} {out₂} f-is g o₁ o₂ =
             let x = element_at s e in
-            let A = flat_field s (some x) in
+            let A = flat_field s (Some x) in
             let B = factor_fields s time_field x.path ++ factor_fields s extent_field x.path in
             let long : length A ≡ f = name-field s two R.entries.naming.formed h₇ R.entries.row₅ x x-tree ∙ sym f-is in
             let tail : take (8 * f) row ≡ B =

@@ -1,11 +1,10 @@
 -- The factors along a path: those of the instance around, and those of the last submodel; each ends at an element of the tree.
 -- Assumes nothing.
+use Rattle.std.specs.Prelude.{None, Some, option_map, unwrap_or}
 use mathlib.Core.Path.{◌≡◌, sym, ap, ◌∙◌}
 use Prim.Native.Nat.{ℕ, zero, suc, ◌+◌, ◌-◌, ◌≤◌, ◌<◌}
 use native.Mathlib.Omega.{arith}
 use mathlib.Core.Bool.{true, false, ◌&&◌}
-use mathlib.Core.Option
-use mathlib.Core.Option.{none, some, map}
 use mathlib.Core.List.{List, [], ◌∷◌, ◌++◌}
 use lib.Dec.{eqb, ltb}
 use lib.ListN.{length, get_or, take, length-append, get_or-append}
@@ -33,7 +32,7 @@ use Rattle.factors.specs.Sites.{factor_field}
 
 -- ---- a path and one submodel more
 module _ (s : Recipe) (field : Recipe → ℕ → List ℕ) where
-  pub beyond : (p : List ℕ) (k : ℕ) → length p ≤ k → factor_at s field p (suc k) ≡ none
+  pub beyond : (p : List ℕ) (k : ℕ) → length p ≤ k → factor_at s field p (suc k) ≡ None
   unfolding factor_at
   beyond p k h = rw (le-ltb k (length p) h)
 
@@ -77,16 +76,16 @@ module _ (s : Recipe) (p : List ℕ) (m : ℕ) where
 
 -- those of the path without it are blank
 module _ (s : Recipe) (p : List ℕ) where
-  pub time-beyond : length p < 4 → factor_field s p (length p) ≡ none
+  pub time-beyond : length p < 4 → factor_field s p (length p) ≡ None
   unfolding factor_field most_depth
   time-beyond h = rw (lt-ltb (length p) 4 h) (beyond s time_field p (length p) (omega arith))
 
-  pub extent-beyond : factor_field s p (4 + length p) ≡ none
+  pub extent-beyond : factor_field s p (4 + length p) ≡ None
   unfolding factor_field most_depth
   extent-beyond = rw (le-ltb (4 + length p) 4 (omega arith)) (beyond s extent_field p (4 + length p - 4) (omega arith))
 
 -- main has none
-pub main-fields : (s : Recipe) (j : ℕ) → factor_field s [] j ≡ none
+pub main-fields : (s : Recipe) (j : ℕ) → factor_field s [] j ≡ None
 unfolding factor_field most_depth
 main-fields s j =
     by_cases (ltb j 4)
@@ -102,7 +101,7 @@ module _ (s : Recipe) (m : ℕ) where
     pub held : holder s f ≡ holder s m
     pub no-model : is_model s f ≡ false
 
-  pub scaling : (f : ℕ) → factors_of s m ≡ some f → Scaling f
+  pub scaling : (f : ℕ) → factors_of s m ≡ Some f → Scaling f
   unfolding factors_of scales is_factors is_model
   scaling f e =
       let h = some_first (scales s m) (places s) f e in
@@ -119,16 +118,16 @@ module _ (s : Recipe) (m : ℕ) where
     definition-is : {f : ℕ} → Scaling f → definition_at s path ≡ holder s f
     definition-is h = sym (h.held ∙ (in-submodels s (definition_at s path) m k).held)
 
-    pub factors-node : (f : ℕ) → factors_of s m ≡ some f → In (node path f) (nodes s (is_factors s))
+    pub factors-node : (f : ℕ) → factors_of s m ≡ Some f → In (node path f) (nodes s (is_factors s))
     factors-node f e = let h = scaling f e in node_in s (is_factors s) f path h.placed h.no-model h.passes i (definition-is h)
 
-    pub factors-some : {c : ℕ} → c ≡ Option.get_or (factors_of s m) 0 → (c ≡ 0 → ⊥) → factors_of s m ≡ some c
+    pub factors-some : {c : ℕ} → c ≡ unwrap_or (factors_of s m) 0 → (c ≡ 0 → ⊥) → factors_of s m ≡ Some c
     factors-some {c} e z =
         by-option (factors_of s m)
         (λ n. absurd (z (e ∙ rw n)))
-        (λ f n. n ∙ ap some (sym (e ∙ rw n)))
+        (λ f n. n ∙ ap Some (sym (e ∙ rw n)))
 
-    pub factors-none : {c : ℕ} → c ≡ Option.get_or (factors_of s m) 0 → c ≡ 0 → factors_of s m ≡ none
+    pub factors-none : {c : ℕ} → c ≡ unwrap_or (factors_of s m) 0 → c ≡ 0 → factors_of s m ≡ None
     unfolding node
     factors-none {c} e z =
         by-option (factors_of s m)
@@ -138,19 +137,19 @@ module _ (s : Recipe) (m : ℕ) where
         absurd (not-zero s (definition_at s path) f p.inside (sym (e ∙ rw n) ∙ z)))
 
     -- what it names is an element of that instance
-    pub named-tree : (f : ℕ) (x : List ℕ) (e : ℕ) → factors_of s m ≡ some f → element_in s f x ≡ some e → In (node path e) (tree_elements s)
+    pub named-tree : (f : ℕ) (x : List ℕ) (e : ℕ) → factors_of s m ≡ Some f → element_in s f x ≡ Some e → In (node path e) (tree_elements s)
     unfolding node
     named-tree f x e n h = tree-in s (node path e) i (rw (definition-is (scaling f n)) (element-in s f x e h).2)
 
-    module _ (h₅ : fault₅ s ≡ none) (h₇ : fault₇ s ≡ none) (field : Recipe → ℕ → List ℕ) where
-      pub factor-for-in : (y : Node) → factor_for s field path m ≡ some y → In y (tree_elements s)
+    module _ (h₅ : fault₅ s ≡ None) (h₇ : fault₇ s ≡ None) (field : Recipe → ℕ → List ℕ) where
+      pub factor-for-in : (y : Node) → factor_for s field path m ≡ Some y → In y (tree_elements s)
       unfolding factor_for factor_named chain_end node
       factor-for-in y e =
           by-option (factors_of s m)
           (λ n. not_none (sym (rw (n, factor_for)) ∙ e))
           (λ f n.
-          let g : map (chain_end s) (map (node path) (element_in s f (field s f))) ≡ some y = sym (rw (n, factor_for)) ∙ e in
-          let a = some-map (chain_end s) (map (node path) (element_in s f (field s f))) y g in
+          let g : option_map (chain_end s) (option_map (node path) (element_in s f (field s f))) ≡ Some y = sym (rw (n, factor_for)) ∙ e in
+          let a = some-map (chain_end s) (option_map (node path) (element_in s f (field s f))) y g in
           let b = some-map (node path) (element_in s f (field s f)) a.0 a.1 in
           rw a.2 (chain-in s h₅ h₇ 5 a.0 (rw b.2 (named-tree f (field s f) b.0 n b.1))))
 
@@ -168,7 +167,7 @@ module _ (s : Recipe) where
   split-last d [] m h = h.0
   split-last d (k ∷ p) m h = split-last (model_of s k) p m h.1
 
-  module _ (h₇ : fault₇ s ≡ none) (p : List ℕ) (i : In p (instances s)) (k : ℕ) (l : k < length p) where
+  module _ (h₇ : fault₇ s ≡ None) (p : List ℕ) (i : In p (instances s)) (k : ℕ) (l : k < length p) where
     pub around-in : In (take k p) (instances s)
     around-in = is-instance s h₇ (take k p) (split main p k (instance-path s p i) l).0
 
@@ -176,8 +175,8 @@ module _ (s : Recipe) where
     unfolding definition_at
     around-submodel = (split main p k (instance-path s p i) l).1
 
-  module _ (h₅ : fault₅ s ≡ none) (h₇ : fault₇ s ≡ none) (p : List ℕ) (i : In p (instances s)) where
-    pub factor-in : (field : Recipe → ℕ → List ℕ) (k : ℕ) (y : Node) → factor_at s field p k ≡ some y → In y (tree_elements s)
+  module _ (h₅ : fault₅ s ≡ None) (h₇ : fault₇ s ≡ None) (p : List ℕ) (i : In p (instances s)) where
+    pub factor-in : (field : Recipe → ℕ → List ℕ) (k : ℕ) (y : Node) → factor_at s field p k ≡ Some y → In y (tree_elements s)
     unfolding factor_at
     factor-in field zero y e = not_none e
     factor-in field (suc k) y e =
@@ -187,7 +186,7 @@ module _ (s : Recipe) where
         factor-for-in s (get_or p k 0) (take k p) (around-in h₇ p i k l) (around-submodel h₇ p i k l) h₅ h₇ field y (rw t at e))
         (λ t. not_none (rw t at e))
 
-    pub field_in : (j : ℕ) (y : Node) → factor_field s p j ≡ some y → In y (tree_elements s)
+    pub field_in : (j : ℕ) (y : Node) → factor_field s p j ≡ Some y → In y (tree_elements s)
     unfolding factor_field
     field_in j y e =
         by_cases (ltb j most_depth)

@@ -1,5 +1,6 @@
 -- Flattening with factors beside plain flattening, at any name width of two or more: accepted, the same answer and table; refused, the same refusal.
 -- Assumes nothing.
+use Rattle.names.specs.declared.Reason.TheVariants.{NoRoom}
 use mathlib.Core.Path.{◌≡◌, refl, sym, ap, ◌∙◌}
 use Prim.Native.Nat.{ℕ, ◌*◌, ◌≤◌, ◌<◌}
 use mathlib.Core.List.{List, [], ◌∷◌, ◌++◌}
@@ -108,7 +109,7 @@ module _ (s : Recipe) (before entries : List ℕ) (a : FactorsAnswer) (answers :
         rw answers
         (by-option (refusal_of s)
         (λ e.
-        by-option (judged (row 13 (both_fault₁₃ s (length before) (length entries)) ∷ []))
+        by-option (judged (row NoRoom (both_fault₁₃ s (length before) (length entries)) ∷ []))
         (λ f. absurd (refuses-is (rw (e, f))))
         (λ r f. rw (e, f) (refl, (refl, refl))))
         (λ r e. rw e (refl, (refl, refl))))

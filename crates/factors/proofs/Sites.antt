@@ -1,11 +1,10 @@
 -- Where the factors of an instance are: the row of the instance around it, with the two factors of its own submodel put in.
 -- Assumes nothing.
+use Rattle.std.specs.Prelude.{None, Option, Some, option_map, unwrap_or}
 use mathlib.Core.Path.{◌≡◌, sym, ap, ◌∙◌}
 use Prim.Native.Nat.{ℕ, suc, ◌+◌, ◌*◌, ◌≤◌, ◌<◌}
 use native.Mathlib.Omega.{arith}
 use mathlib.Core.Bool.{cond}
-use mathlib.Core.Option
-use mathlib.Core.Option.{Option, none, some, map}
 use mathlib.Core.List.{List, [], ◌∷◌, ◌++◌}
 use lib.Dec.{eqb}
 use lib.ListN.{length, get_or, set, take, drop, length-append, length-drop, length-set}
@@ -35,11 +34,11 @@ use Rattle.factors.proofs.Paths.{extent-beyond, extent-field, factors-none, fact
 
 -- ---- what a site says
 -- there is none where the record is 0
-pub blank-site : (s : Recipe) (i : ℕ) {o : Option Node} {m : ℕ} → o ≡ none → m ≡ 0 → SiteIs s o i m
+pub blank-site : (s : Recipe) (i : ℕ) {o : Option Node} {m : ℕ} → o ≡ None → m ≡ 0 → SiteIs s o i m
 blank-site s i n z = record { is = no-site s i _ z ∙ sym n; inside = λ f. absurd (f z) }
 
 -- what is there is an element of the tree
-pub site-in : {s : Recipe} {o : Option Node} {i m : ℕ} → SiteIs s o i m → (y : Node) → o ≡ some y → In y (tree_elements s)
+pub site-in : {s : Recipe} {o : Option Node} {i m : ℕ} → SiteIs s o i m → (y : Node) → o ≡ Some y → In y (tree_elements s)
 site-in {s} {o} {i} {m} S y n =
     by_cases (eqb m 0)
     (λ t. not_none (sym (no-site s i m (eqb-true m 0 t)) ∙ S.is ∙ n))
@@ -51,30 +50,30 @@ site-in {s} {o} {i} {m} S y n =
 -- ---- the end of a factor's chain, by its number
 module _ {s : Recipe} {t el : List ℕ} (C : ChainsRequires s t el) {f q z : ℕ} (E : FactorEnd s f q z) where
   abbrev ended : List ℕ → Option ℕ → Option Node
-  ended path o = map (chain_end s) (map (node path) o)
+  ended path o = option_map (chain_end s) (option_map (node path) o)
 
   module _ (path : List ℕ) (o : Option ℕ) (F : Factor s f q path o) where
-    ended-in : (y : Node) → ended path o ≡ some y → In y (tree_elements s)
+    ended-in : (y : Node) → ended path o ≡ Some y → In y (tree_elements s)
     unfolding chain_end
     ended-in y n =
-        let a = some-map (chain_end s) (map (node path) o) y n in
+        let a = some-map (chain_end s) (option_map (node path) o) y n in
         let b = some-map (node path) o a.0 a.1 in
         rw a.2 (chain-in s C.elements.aimed.measured.linked.row₅ C.elements.row₇ 5 a.0 (rw b.2 (F.tree b.0 b.1)))
 
-    ended-none : ended path o ≡ none → z ≡ 0
+    ended-none : ended path o ≡ None → z ≡ 0
     unfolding end_from
     ended-none n =
         by-option o
         (λ k. E path o F ∙ rw k)
-        (λ e k. let g : ended path o ≡ some (chain_end s (node path e)) = rw k in not_none (sym n ∙ g))
+        (λ e k. let g : ended path o ≡ Some (chain_end s (node path e)) = rw k in not_none (sym n ∙ g))
 
-    end-number : (e : ℕ) → o ≡ some e → z ≡ number s (chain_end s (node path e)) + 1
+    end-number : (e : ℕ) → o ≡ Some e → z ≡ number s (chain_end s (node path e)) + 1
     unfolding end_from
     end-number e k = E path o F ∙ ap (end_from s path) k
 
-    ended_some : (y : Node) → ended path o ≡ some y → z ≡ number s y + 1
+    ended_some : (y : Node) → ended path o ≡ Some y → z ≡ number s y + 1
     ended_some y n =
-        let a = some-map (chain_end s) (map (node path) o) y n in
+        let a = some-map (chain_end s) (option_map (node path) o) y n in
         let b = some-map (node path) o a.0 a.1 in
         end-number b.0 b.1 ∙ ap (λ (v : Node). number s v + 1) (sym (a.2 ∙ ap (chain_end s) b.2))
 
@@ -212,7 +211,7 @@ module _ {s : Recipe} {t inst el : List ℕ} (R : SitesRequires s t inst el) {i 
 
     -- its own kind 8, by its cell
     module _ {k : ℕ} (k-is : k ≡ get_or t (m + 5) 0) where
-      cell-is : k ≡ Option.get_or (factors_of s m) 0
+      cell-is : k ≡ unwrap_or (factors_of s m) 0
       cell-is = let h = in-submodels s (definition_at s around) m submodel in k-is ∙ R.planted.measured.paired.factors m h.placed h.passes
 
       -- there is none: the row stays
@@ -220,8 +219,8 @@ module _ {s : Recipe} {t inst el : List ℕ} (R : SitesRequires s t inst el) {i 
       unfolding around factor_for
       row-none z g =
           let none_is = factors-none s m around around-in submodel cell-is z in
-          let no-time : factor_for s time_field around m ≡ none = rw (none_is, factor_for) in
-          let no-extent : factor_for s extent_field around m ≡ none = rw (none_is, factor_for) in
+          let no-time : factor_for s time_field around m ≡ None = rw (none_is, factor_for) in
+          let no-extent : factor_for s extent_field around m ≡ None = rw (none_is, factor_for) in
           row_done g
           (λ j h.
           sym (whole j
@@ -234,7 +233,7 @@ module _ {s : Recipe} {t inst el : List ℕ} (R : SitesRequires s t inst el) {i 
           (λ c. outer-field s around m j (λ e. omega arith) (eqb-false j (4 + length around) c)))))
 
       module _ (z : k ≡ 0 → ⊥) where
-        some_is : factors_of s m ≡ some k
+        some_is : factors_of s m ≡ Some k
         some_is = factors-some s m around around-in submodel cell-is z
 
         pub factors-room : k + 13 ≤ length t
@@ -242,7 +241,7 @@ module _ {s : Recipe} {t inst el : List ℕ} (R : SitesRequires s t inst el) {i 
 
         module _ {f : ℕ} (f-is : f ≡ get_or inst (6 * u + 2) 0) where
           -- a field of it, by its cell
-          factor : (field : Recipe → ℕ → List ℕ) {q : ℕ} → q ≡ Option.get_or (element_in s k (field s k)) 0 → Factor s f q around (element_in s k (field s k))
+          factor : (field : Recipe → ℕ → List ℕ) {q : ℕ} → q ≡ unwrap_or (element_in s k (field s k)) 0 → Factor s f q around (element_in s k (field s k))
           unfolding around
           factor field e = record {
             inside = around-in;
@@ -251,7 +250,7 @@ module _ {s : Recipe} {t inst el : List ℕ} (R : SitesRequires s t inst el) {i 
             tree = λ x n. named-tree s m around around-in submodel k (field s k) x some_is n;
           }
 
-          factor-is : (field : Recipe → ℕ → List ℕ) → map (chain_end s) (map (node around) (element_in s k (field s k))) ≡ factor_for s field around m
+          factor-is : (field : Recipe → ℕ → List ℕ) → option_map (chain_end s) (option_map (node around) (element_in s k (field s k))) ≡ factor_for s field around m
           unfolding factor_for factor_named node
           factor-is field = rw (some_is, factor_for)
 

@@ -1,12 +1,11 @@
 -- The companion by its entries, at any name width of two or more: entry number i is that of the i-th element, and its filled fields name records of the flat table.
 -- Assumes nothing.
+use Rattle.std.specs.Prelude.{None, Option, Some, option_map}
 use mathlib.Core.Path.{◌≡◌, refl, sym, ap, ◌∙◌}
 use mathlib.Core.Logic.{inl, inr, ⊎_elim}
 use Prim.Native.Nat.{ℕ, zero, suc, ◌+◌, ◌*◌, ◌≤◌, ◌<◌}
 use native.Mathlib.Omega.{arith}
 use mathlib.Core.Bool.{Bool, true, false, not, ◌&&◌}
-use mathlib.Core.Option
-use mathlib.Core.Option.{Option, none, some}
 use mathlib.Core.List.{List, [], ◌∷◌, ◌++◌, map}
 use lib.Dec.{eqb, ltb}
 use lib.ListN.{get_or, length, take, drop}
@@ -41,7 +40,7 @@ use Rattle.factors.specs.Entries.{FactorNamed, entry_field, entry_of, rated_at}
 use Rattle.factors.proofs.Entries.{entry-bytes, rated-tree}
 use Rattle.factors.proofs.Paths.{around-in, around-submodel, factor-in, factors-node, named-tree}
 
-module _ (s : Recipe) (two : 2 ≤ s.width) (h₃ : fault₃ s ≡ none) (h₅ : fault₅ s ≡ none) (h₇ : fault₇ s ≡ none) where
+module _ (s : Recipe) (two : 2 ≤ s.width) (h₃ : fault₃ s ≡ None) (h₅ : fault₅ s ≡ None) (h₇ : fault₇ s ≡ None) where
   module _ (i : ℕ) (l : i < length (rated s)) where
     x : Node
     x = rated_at s i
@@ -65,11 +64,11 @@ module _ (s : Recipe) (two : 2 ≤ s.width) (h₃ : fault₃ s ≡ none) (h₅ :
     factors field = map (factor_at s field x.path) (run 1 4)
 
     nine : List (Option Node)
-    nine = some x ∷ (factors time_field ++ factors extent_field)
+    nine = Some x ∷ (factors time_field ++ factors extent_field)
 
     nine-are : drop 1 (companion_record s x) ≡ joined (map (flat_field s) nine)
     unfolding companion_record factor_fields factors nine most_depth
-    nine-are = ap (λ (r : List ℕ). flat_field s (some x) ++ r) (sym (joined-append (map (flat_field s) (factors time_field)) (map (flat_field s) (factors extent_field))))
+    nine-are = ap (λ (r : List ℕ). flat_field s (Some x) ++ r) (sym (joined-append (map (flat_field s) (factors time_field)) (map (flat_field s) (factors extent_field))))
 
     each-factor : (field : Recipe → ℕ → List ℕ) (o : Option Node) → In o (factors field) → length (flat_field s o) ≡ flat_width s.width
     unfolding factors
@@ -82,13 +81,13 @@ module _ (s : Recipe) (two : 2 ≤ s.width) (h₃ : fault₃ s ≡ none) (h₅ :
     each o (inl e) = rw e (name-field s two h₃ h₇ h₅ x tree)
     each o (inr k) = ⊎_elim (each-factor time_field o) (each-factor extent_field o) (in-append (factors time_field) (factors extent_field) o k)
 
-    field-at : (k : ℕ) → k < 9 → entry_field s.width (companion s) i k ≡ flat_field s (get_or nine k none)
+    field-at : (k : ℕ) → k < 9 → entry_field s.width (companion s) i k ≡ flat_field s (get_or nine k None)
     unfolding factors nine x
     field-at k m =
         ap (λ (r : List ℕ). take (flat_width s.width) (drop (k * flat_width s.width) r)) (ap (drop 1) entry_at ∙ nine-are)
-        ∙ piece (flat_field s) (flat_width s.width) nine k none each (omega arith)
+        ∙ piece (flat_field s) (flat_width s.width) nine k None each (omega arith)
 
-    pub name-at : entry_field s.width (companion s) i 0 ≡ flat_field s (some (rated_at s i))
+    pub name-at : entry_field s.width (companion s) i 0 ≡ flat_field s (Some (rated_at s i))
     unfolding factors nine x
     name-at = field-at 0 (omega arith)
 
@@ -109,7 +108,7 @@ module _ (s : Recipe) (two : 2 ≤ s.width) (h₃ : fault₃ s ≡ none) (h₅ :
     extent-at (suc (suc (suc (suc k)))) m = absurd (omega arith)
 
   -- no two entries have one name
-  module _ (h₄ : fault₄ s ≡ none) where
+  module _ (h₄ : fault₄ s ≡ None) where
     not-before : (i j : ℕ) → i < j → j < length (rated s) → entry_field s.width (companion s) i 0 ≡ entry_field s.width (companion s) j 0 → ⊥
     unfolding rated survivors
     not-before i j h l e =
@@ -129,7 +128,7 @@ module _ (s : Recipe) (two : 2 ≤ s.width) (h₃ : fault₃ s ≡ none) (h₅ :
         (λ l. absurd (not-before j i l a (sym e)))
 
     -- ---- what a filled factor field names
-    module _ (h₂₀ : fault₂₀ s ≡ none) where
+    module _ (h₂₀ : fault₂₀ s ≡ None) where
       no-fault : (y : Node) → In y (nodes s (is_factors s)) → has_factor_fault s y ≡ false
       unfolding fault₂₀ is_unfactored
       no-fault y i =
@@ -140,7 +139,7 @@ module _ (s : Recipe) (two : 2 ≤ s.width) (h₃ : fault₃ s ≡ none) (h₅ :
 
       module _ (field : Recipe → ℕ → List ℕ) (half : (y : Node) → has_factor_fault s y ≡ false → is_factor_fault s y (field s y.place) ≡ false) where
         -- the end of the chain from what a kind 8 names does
-        end-does : (path : List ℕ) (f : ℕ) (z : Node) → In (node path f) (nodes s (is_factors s)) → factor_named s (node path f) (field s f) ≡ some z → is_factor s (chain_end s z) ≡ true
+        end-does : (path : List ℕ) (f : ℕ) (z : Node) → In (node path f) (nodes s (is_factors s)) → factor_named s (node path f) (field s f) ≡ Some z → is_factor s (chain_end s z) ≡ true
         unfolding is_factor_fault factor_named node
         end-does path f z i e =
             let r = some-map (node path) (element_in s f (field s f)) z e in
@@ -150,10 +149,10 @@ module _ (s : Recipe) (two : 2 ≤ s.width) (h₃ : fault₃ s ≡ none) (h₅ :
             not-false (is_factor s (chain_end s z)) (rw e at n)
 
         module _ (path : List ℕ) (k : ℕ) (f : List ℕ) (i : In path (instances s)) (e : f ≡ flat_field s (factor_at s field path (suc k))) (b : is_blank f ≡ false) where
-          blank : factor_at s field path (suc k) ≡ none → FactorNamed s field path k f
+          blank : factor_at s field path (suc k) ≡ None → FactorNamed s field path k f
           blank n = not-both (ap is_blank (e ∙ ap (flat_field s) n) ∙ field-blank s h₃) b
 
-          too-deep : ltb k (length path) ≡ false → factor_at s field path (suc k) ≡ none
+          too-deep : ltb k (length path) ≡ false → factor_at s field path (suc k) ≡ None
           unfolding factor_at
           too-deep t = rw t
 
@@ -161,12 +160,12 @@ module _ (s : Recipe) (two : 2 ≤ s.width) (h₃ : fault₃ s ≡ none) (h₅ :
           unfolding factor_at
           at-depth t = rw t
 
-          no_kind : factors_of s (get_or path k 0) ≡ none → factor_for s field (take k path) (get_or path k 0) ≡ none
+          no_kind : factors_of s (get_or path k 0) ≡ None → factor_for s field (take k path) (get_or path k 0) ≡ None
           unfolding factor_for
           no_kind n = rw (n, factor_for)
 
-          by_kind : (c : ℕ) → factors_of s (get_or path k 0) ≡ some c
-              → factor_for s field (take k path) (get_or path k 0) ≡ Option.map (chain_end s) (factor_named s (node (take k path) c) (field s c))
+          by_kind : (c : ℕ) → factors_of s (get_or path k 0) ≡ Some c
+              → factor_for s field (take k path) (get_or path k 0) ≡ option_map (chain_end s) (factor_named s (node (take k path) c) (field s c))
           unfolding factor_for
           by_kind c n = rw (n, factor_for)
 
@@ -177,7 +176,7 @@ module _ (s : Recipe) (two : 2 ≤ s.width) (h₃ : fault₃ s ≡ none) (h₅ :
               (λ n. blank (is ∙ no_kind n))
               (λ c n.
               by-option (factor_named s (node (take k path) c) (field s c))
-              (λ m. blank (is ∙ by_kind c n ∙ ap (Option.map (chain_end s)) m))
+              (λ m. blank (is ∙ by_kind c n ∙ ap (option_map (chain_end s)) m))
               (λ z m.
               let a = around-in s h₇ path i k l in
               let sub = around-submodel s h₇ path i k l in
@@ -187,7 +186,7 @@ module _ (s : Recipe) (two : 2 ≤ s.width) (h₃ : fault₃ s ≡ none) (h₅ :
               let alive = not-true (is_gone s (chain_end s z)) (and_left (not (is_gone s (chain_end s z))) _ does) in
               let three-is = eqb-true (class s (chain_end s z).place) 3 (and_right (not (is_gone s (chain_end s z))) _ does) in
               let one : NamesOne s f (chain_end s z) =
-              names-one s two h₃ h₅ h₇ h₄ (chain_end s z) (survives s (chain_end s z) (chain-in s h₅ h₇ 5 z inside) alive) f (e ∙ ap (flat_field s) (is ∙ by_kind c n ∙ ap (Option.map (chain_end s)) m)) in
+              names-one s two h₃ h₅ h₇ h₄ (chain_end s z) (survives s (chain_end s z) (chain-in s h₅ h₇ 5 z inside) alive) f (e ∙ ap (flat_field s) (is ∙ by_kind c n ∙ ap (option_map (chain_end s)) m)) in
               record {
                 factors = c;
                 scales = n;

@@ -1,10 +1,9 @@
 -- 02's Paper 2, "A companion table": its entries, the answer of flattening with factors, and both outputs afterwards, at any name width.
 -- Assumes nothing.
-use Rattle.std.specs.Prelude.{ℕ, zero, suc, ◌+◌, ◌*◌, Bool, cond, ◌||◌, List, [], ◌∷◌, ◌++◌, map, length, get_or, take, drop, ltb, eqb}
-use Rattle.std.proofs.Math.Option
-use Rattle.std.proofs.Math.Option.{Option, none, some}
+use Rattle.names.specs.declared.Reason.TheVariants.{NoRoom}
+use Rattle.std.specs.Prelude.{ℕ, zero, suc, ◌+◌, ◌*◌, Bool, cond, ◌||◌, List, [], ◌∷◌, ◌++◌, map, length, get_or, take, drop, ltb, eqb, None, Option, Some, option_map}
 use Rattle.names.specs.declared.Refusal.{Refusal}
-use Rattle.names.specs.Judging.{row, judged}
+use Rattle.names.specs.Judging.{row_number, row, judged}
 use Rattle.names.specs.Lists.{joined, keep}
 use Rattle.flat_table.specs.Table.{flat_length, flat_width}
 use Rattle.recipe.specs.Records.{Recipe, class, extent_field, time_field}
@@ -29,12 +28,12 @@ rated s = keep (is_rated s) (survivors s)
 -- "Factors follow the chain as references do": the end of the chain from a factor of the submodel m of the instance at the path; none if it has no kind 8, or a blank there
 unfoldable pub factor_for : Recipe → (Recipe → ℕ → List ℕ) → List ℕ → ℕ → Option Node
 factor_for s field path m =
-    elim (factors_of s m) [ none ↦ none | some f ↦ Option.map (chain_end s) (factor_named s (node path f) (field s f)) ]
+    elim (factors_of s m) [ None ↦ None | Some f ↦ option_map (chain_end s) (factor_named s (node path f) (field s f)) ]
 
 -- "for the submodel at depth i" of the path, its factor, which is looked for in the instance at depth i - 1; "blank if none"
 unfoldable pub factor_at : Recipe → (Recipe → ℕ → List ℕ) → List ℕ → ℕ → Option Node
-factor_at s field path zero = none
-factor_at s field path (suc k) = cond (ltb k (length path)) (factor_for s field (take k path) (get_or path k 0)) none
+factor_at s field path zero = None
+factor_at s field path (suc k) = cond (ltb k (length path)) (factor_for s field (take k path) (get_or path k 0)) None
 
 -- "four time fields", "four extent fields", "field i for the submodel at depth i"
 unfoldable pub factor_fields : Recipe → (Recipe → ℕ → List ℕ) → List ℕ → List ℕ
@@ -42,7 +41,7 @@ factor_fields s field path = joined (map (λ i. flat_field s (factor_at s field 
 
 -- "kind 8, its flat name, four time fields and four extent fields"
 unfoldable pub companion_record : Recipe → Node → List ℕ
-companion_record s x = 8 ∷ (flat_field s (some x) ++ (factor_fields s time_field x.path ++ factor_fields s extent_field x.path))
+companion_record s x = 8 ∷ (flat_field s (Some x) ++ (factor_fields s time_field x.path ++ factor_fields s extent_field x.path))
 
 -- "A companion table"
 unfoldable pub companion : Recipe → List ℕ
@@ -67,14 +66,14 @@ factors_refused n p = record { number = n; place = p; count = 0; bytes = 0; entr
 
 -- a refusal handed on, or the answer where there is none
 unfoldable pub factors_refused_or : Option Refusal → FactorsAnswer → FactorsAnswer
-factors_refused_or none next = next
-factors_refused_or (some r) next = factors_refused r.number r.place
+factors_refused_or None next = next
+factors_refused_or (Some r) next = factors_refused (row_number r.reason) r.place
 
 -- the answer of flattening s with factors into `room` and `companion_room` bytes: the recipe's refusal, or row 13, or acceptance
 unfoldable pub factors_verdict : Recipe → ℕ → ℕ → FactorsAnswer
 factors_verdict s room companion_room =
     factors_refused_or (refusal_of s)
-    (factors_refused_or (judged (row 13 (both_fault₁₃ s room companion_room) ∷ []))
+    (factors_refused_or (judged (row NoRoom (both_fault₁₃ s room companion_room) ∷ []))
     (factors_accepted s.width (length (survivors s)) (length (rated s))))
 
 -- one of the outputs afterwards: "bytes past the entries are unchanged"; "both outputs unchanged" where the number is not 0

@@ -1,7 +1,6 @@
 -- The entries of a companion by their numbers, and what a filled factor field names: the parts of the statements in `proofs/Statements.antt`.
 -- Assumes nothing.
-use Rattle.std.specs.Prelude.{ℕ, ◌*◌, ◌≡◌, List, [], get_or, take, drop}
-use Rattle.std.proofs.Math.Option.{some}
+use Rattle.std.specs.Prelude.{ℕ, ◌*◌, ◌≡◌, List, [], get_or, take, drop, Some}
 use Rattle.names.specs.Lists.{In}
 use Rattle.flat_table.specs.Table.{flat_width}
 use Rattle.recipe.specs.Definitions.{factors_of}
@@ -27,9 +26,9 @@ rated_at s i = get_or (rated s) i (node [] 0)
 -- f is the name of exactly one record of the flat table, of kind 3: that of the end of the chain from what the factor names, for the submodel at depth k + 1 of the path
 pub record FactorNamed (s : Recipe) (field : Recipe → ℕ → List ℕ) (path : List ℕ) (k : ℕ) (f : List ℕ) : Type 0 where
   pub factors : ℕ
-  pub scales : factors_of s (get_or path k 0) ≡ some factors
+  pub scales : factors_of s (get_or path k 0) ≡ Some factors
   pub named : Node
-  pub is : factor_named s (node (take k path) factors) (field s factors) ≡ some named
+  pub is : factor_named s (node (take k path) factors) (field s factors) ≡ Some named
   pub inside : In named (tree_elements s)
   pub names : NamesOne s f (chain_end s named)
   pub constant : kind_at s names.place ≡ 3

@@ -1,8 +1,6 @@
 -- What the writers of the companion are given: which elements have an entry, and where the eight factors of each instance are.
 -- Assumes nothing.
-use Rattle.std.specs.Prelude.{ℕ, suc, ◌+◌, ◌*◌, ◌-◌, ◌≤◌, ◌<◌, Bool, cond, not, ◌&&◌, List, [], map, ◌≡◌, ltb, get_or, length, take}
-use Rattle.std.proofs.Math.Option
-use Rattle.std.proofs.Math.Option.{Option, none}
+use Rattle.std.specs.Prelude.{ℕ, suc, ◌+◌, ◌*◌, ◌-◌, ◌≤◌, ◌<◌, Bool, cond, not, ◌&&◌, List, [], map, ◌≡◌, ltb, get_or, length, take, None, Option, option_map}
 use Rattle.names.specs.Lists.{joined}
 use Rattle.flat_table.specs.Table.{flat_width}
 use Rattle.recipe.specs.Reading.{fault₅}
@@ -33,7 +31,7 @@ fields_to s path n = joined (map (λ j. flat_field s (factor_field s path j)) (r
 -- the elements by number, with their fates and records
 pub record EntryRequires (s : Recipe) (el : List ℕ) : Type 0 where
   pub naming : Naming s
-  pub row₅ : fault₅ s ≡ none
+  pub row₅ : fault₅ s ≡ None
   pub fates : FatesRequires s el (length (tree_elements s))
   pub elements : ElementRows s el
 
@@ -44,7 +42,7 @@ pub record SiteIs (s : Recipe) (o : Option Node) (i m : ℕ) : Type 0 where
 
 -- where the end of the chain is from the factor that f and q stand for, whichever it is
 abbrev pub FactorSite : Recipe → ℕ → ℕ → ℕ → ℕ → Type 0
-FactorSite s f q i m = (path : List ℕ) (o : Option ℕ) → Factor s f q path o → SiteIs s (Option.map (chain_end s) (Option.map (node path) o)) i m
+FactorSite s f q i m = (path : List ℕ) (o : Option ℕ) → Factor s f q path o → SiteIs s (option_map (chain_end s) (option_map (node path) o)) i m
 
 -- there is a row for each instance, and the first n have in it where the eight factors are, two numbers each
 pub record SitesTo (s : Recipe) (sites : List ℕ) (n : ℕ) : Type 0 where

@@ -4,6 +4,7 @@
 
 ghost use Rattle.std.specs.Prelude.{◌≡◌, [], ◌++◌, ◌∷◌, ◌+◌, ◌*◌, ◌<◌, ◌≤◌, length, take, drop};
 ghost use Rattle.std.proofs.lemmas.List.Edits.{sets};
+ghost use Rattle.names.specs.Judging.{row_number};
 ghost use Rattle.flat_table.specs.Table.{flat_length};
 ghost use Rattle.recipe.specs.Records.{recipe_at};
 ghost use Rattle.tree.specs.Tree.{instances, tree_elements};
@@ -17,10 +18,11 @@ ghost use Rattle.composer.specs.Writing.{element_at};
 ghost use Rattle.factors.specs.Companion.{rated, companion, entry_length, factors_refused, factors_verdict, table_after, companion_after};
 ghost use Rattle.factors.specs.Sites.{is_entry, EntryRequires, FactorSite, SitesTo, Sited, SitesRequires, RowFor, RowRequires, CompanionRequires};
 
-use compose::Composition;
 use composer::Site;
 use elements::{GONE, INSTANCE, RECORD};
+use names::{Reason, Refusal};
 use shadow::cell;
+use tree::Size;
 
 // Sixteen for each of 64 instances: the instance and the record of eight factors.
 const SITE_CELLS: usize = 1024;
@@ -227,16 +229,17 @@ fn write_companion(
     }
 }
 
-// A refusal's answer.
-fn refusal(number: u64, place: u64) -> FactorsAnswer
-    ensures { result ≡ factors_refused number place }
-{
-    FactorsAnswer {
-        number: number,
-        place: place,
-        count: 0,
-        bytes: 0,
-        entries: 0,
+impl From<Refusal> for FactorsAnswer {
+    ghost from_gives = { λ r a. a ≡ factors_refused (row_number r.reason) r.place };
+
+    fn from(r: Refusal) -> FactorsAnswer {
+        FactorsAnswer {
+            number: r.reason.number(),
+            place: r.place as u64,
+            count: 0,
+            bytes: 0,
+            entries: 0,
+        }
     }
 }
 
@@ -247,22 +250,20 @@ fn write_both(
     t: &[u16],
     inst: &[u16],
     el: &[u16],
-    c: Composition,
+    n: Size,
     table: &mut [u8],
     entries: &mut [u8],
 )
-    requires { Composed (recipe_at w s.now) t.now inst.now el.now c.insts c.elems × ((flat_length w * length (survivors (recipe_at w s.now)) ≤ length table.old) × (entry_length w * length (rated (recipe_at w s.now)) ≤ length entries.old)) }
+    requires { Composed (recipe_at w s.now) t.now inst.now el.now n.insts n.elems × ((flat_length w * length (survivors (recipe_at w s.now)) ≤ length table.old) × (entry_length w * length (rated (recipe_at w s.now)) ≤ length entries.old)) }
     ensures { (table.new ≡ flat (recipe_at w s.now) ++ drop (length (flat (recipe_at w s.now))) table.old) × (entries.new ≡ companion (recipe_at w s.now) ++ drop (length (companion (recipe_at w s.now))) entries.old) }
 {
-    let insts = c.insts;
-    let elems = c.elems;
     let mut pre = [0u8; flat_names::PREFIX_BYTES];
     let mut len = [0u16; flat_names::PREFIX_ROWS];
     let mut sites = [0u16; SITE_CELLS];
-    flat_names::fill_prefixes(s, w, t, inst, insts, &mut pre, &mut len);
-    composer::write_table(s, w, t, el, elems, &pre, &len, table);
-    fill_sites(s, w, t, inst, el, insts, &mut sites);
-    write_companion(s, w, el, elems, &pre, &len, &sites, entries);
+    flat_names::fill_prefixes(s, w, t, inst, n.insts, &mut pre, &mut len);
+    composer::write_table(s, w, t, el, n.elems, &pre, &len, table);
+    fill_sites(s, w, t, inst, el, n.insts, &mut sites);
+    write_companion(s, w, el, n.elems, &pre, &len, &sites, entries);
 }
 
 // Row 13, of a recipe that no other row refuses; where it does not apply, both tables.
@@ -272,28 +273,31 @@ fn flatten_composed(
     t: &[u16],
     inst: &[u16],
     el: &[u16],
-    c: Composition,
+    n: Size,
     table: &mut [u8],
     entries: &mut [u8],
 ) -> FactorsAnswer
-    requires { Composed (recipe_at w s.now) t.now inst.now el.now c.insts c.elems × Unrefused (recipe_at w s.now) }
+    requires { Composed (recipe_at w s.now) t.now inst.now el.now n.insts n.elems × Unrefused (recipe_at w s.now) }
     ensures { (result ≡ factors_verdict (recipe_at w s.now) (length table.old) (length entries.old)) × ((table.new ≡ table_after (recipe_at w s.now) table.old (length entries.old)) × (entries.new ≡ companion_after (recipe_at w s.now) (length table.old) entries.old)) }
 {
-    let elems = c.elems;
-    let n = composer::count_survivors(s, w, el, elems);
-    let k = count_entries(s, w, el, elems);
-    let bytes = n * composer::record_width(w);
+    let no_room = Refusal {
+        reason: Reason::NoRoom,
+        place: 0,
+    };
+    let count = composer::count_survivors(s, w, el, n.elems);
+    let k = count_entries(s, w, el, n.elems);
+    let bytes = count * composer::record_width(w);
     if table.len() < bytes {
-        return refusal(13, 0);
+        return FactorsAnswer::from(no_room);
     }
     if entries.len() < k * entry_width(w) {
-        return refusal(13, 0);
+        return FactorsAnswer::from(no_room);
     }
-    write_both(s, w, t, inst, el, c, table, entries);
+    write_both(s, w, t, inst, el, n, table, entries);
     FactorsAnswer {
         number: 0,
         place: 0,
-        count: n as u64,
+        count: count as u64,
         bytes: bytes as u64,
         entries: k as u64,
     }
@@ -310,20 +314,17 @@ pub fn bandrolt_flatten_with_factors(
     let mut t = [0u16; compose::SHADOW_CELLS];
     let mut inst = [0u16; compose::INSTANCE_CELLS];
     let mut el = [0u16; compose::ELEMENT_CELLS];
-    let c = compose::compose(recipe, composer::NAME_WIDTH, &mut t, &mut inst, &mut el);
-    let number = c.number;
-    let place = c.place;
-    if number != 0 {
-        return refusal(number, place);
+    match compose::compose(recipe, composer::NAME_WIDTH, &mut t, &mut inst, &mut el) {
+        Err(refusal) => FactorsAnswer::from(refusal),
+        Ok(n) => flatten_composed(
+            recipe,
+            composer::NAME_WIDTH,
+            &t,
+            &inst,
+            &el,
+            n,
+            table,
+            companion,
+        ),
     }
-    flatten_composed(
-        recipe,
-        composer::NAME_WIDTH,
-        &t,
-        &inst,
-        &el,
-        c,
-        table,
-        companion,
-    )
 }

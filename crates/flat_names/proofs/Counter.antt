@@ -1,11 +1,11 @@
 -- Paper 3 on one page: the count of underscores that is tried for a prefix is a byte, 2 to the name width from the first try to the last; the last is document 01's fewest, and no answer differs.
 -- Assumes names of 2 to 64 bytes, and a recipe that row 3 does not refuse.
+use Rattle.std.specs.Prelude.{None}
 use mathlib.Core.Path.{◌≡◌, refl, sym, ap, ◌∙◌}
 use mathlib.Core.Logic.{inl, inr}
 use Prim.Native.Nat.{ℕ, ◌≤◌, ◌<◌}
 use native.Mathlib.Omega.{arith}
 use mathlib.Core.Bool.{true, false}
-use mathlib.Core.Option.{none}
 use mathlib.Core.List.{List, ◌∷◌, ◌++◌}
 use lib.ListN.{get_or}
 use Rattle.names.specs.Lists.{In, last_or}
@@ -52,7 +52,7 @@ pub record Counter (s : Recipe) (m : ℕ) : Type 0 where
   -- no answer differs: what the second look answers is the last try, and so the fewest, as `fewest_underscores` promised before
   pub answer : {r : ℕ} → r ≡ last_try (name s m) (declared_names s (model_of s m)) (handed_on s m) → r ≡ fewest s.width (names_around s m) (name s m)
 
-module _ (s : Recipe) (two : 2 ≤ s.width) (narrow : s.width ≤ 64) (h₃ : fault₃ s ≡ none) (m : ℕ) (i : In m (submodels s (holder s m))) where
+module _ (s : Recipe) (two : 2 ≤ s.width) (narrow : s.width ≤ 64) (h₃ : fault₃ s ≡ None) (m : ℕ) (i : In m (submodels s (holder s m))) where
   abbrev n : List ℕ
   n = name s m
 

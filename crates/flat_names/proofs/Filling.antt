@@ -1,7 +1,7 @@
 -- The table of prefixes, row by row: an instance's row is that of the instance around it, and the prefix of its submodel.
 -- Assumes nothing.
 use mathlib.Core.Path.{◌≡◌, refl, sym, ap, ◌∙◌}
-use Prim.Native.Nat.{ℕ, zero, suc, ◌+◌, ◌*◌, ◌≤◌, ◌<◌}
+use Prim.Native.Nat.{ℕ, zero, suc, ◌+◌, ◌*◌, ◌-◌, ◌≤◌, ◌<◌}
 use native.Mathlib.Omega.{arith}
 use mathlib.Core.List.{List, [], ◌∷◌, ◌++◌, map, append_assoc, append-nil}
 use lib.ListN.{length, get_or, set, take, drop, replicate, length-set, length-append, length-drop, length-replicate}
@@ -19,7 +19,9 @@ use Rattle.tree.proofs.Instances.{instance-path}
 use Rattle.flat_names.specs.Prefixes.{prefix, with_underscores, names_around, fewest}
 use Rattle.flat_names.specs.Rows.{Naming, RowsTo, Prefixed, prefixes_of, row_width}
 use Rattle.names.proofs.Stores.{Copied, copied-one}
-use Rattle.flat_names.proofs.Puts.{parts, prefixes-short, rows-below, row_inside}
+use Rattle.std.specs.List.{copy_within}
+use native.Mathlib.Nat.{add-sub_cancel_left}
+use Rattle.flat_names.proofs.Puts.{parts, pasted, prefixes-short, rows-below, row_inside}
 use Rattle.flat_names.proofs.Looking.{name-bytes}
 
 -- ---- what a run of stores leaves as it was, and what it leaves
@@ -43,7 +45,12 @@ part-there vs l i h =
     ap (λ (k : List ℕ). take (length vs) (drop i k)) (sets-eq vs l i h ∙ append_assoc (take i l) vs rest)
     ∙ (ap (take (length vs)) (drop_at (take i l) (vs ++ rest) i (length-take-le i l (omega arith))) ∙ take-append_seam vs rest)
 
--- ---- a copy within the table, to where nothing is read any more
+-- ---- a copy within the table
+pub row-copied : (pre : List ℕ) (from l to : ℕ) → from + l ≤ length pre → to + l ≤ length pre → copy_within pre from (from + l) to ≡ sets pre to (take l (drop from pre))
+row-copied pre from l to h room =
+    let n : from + l - from ≡ l = add-sub_cancel_left from l in
+    pasted pre (drop from pre) to (from + l - from) (omega arith) (omega (arith, length-drop from pre)) ∙ ap (λ (j : ℕ). sets pre to (take j (drop from pre))) n
+
 pub within-one : {t : List ℕ} {a at : ℕ} {out : List ℕ} {k : ℕ} → Copied t a t at out k → a + k < at → a + k < length t
     → Copied t a t at (set out (at + k) (get_or out (a + k) 0)) (k + 1)
 within-one {t} {a} {at} {out} {k} z h l =

@@ -1,10 +1,10 @@
 -- A prefix has at most w + 2 bytes, and a flat name fits its field: 14 and 68 where the name width w is 12.
 -- Assumes nothing.
+use Rattle.std.specs.Prelude.{None}
 use mathlib.Core.Path.{◌≡◌}
 use Prim.Native.Nat.{ℕ, ◌+◌, ◌*◌, ◌≤◌}
 use native.Mathlib.Omega.{arith}
 use native.Mathlib.Nat.{mul-suc, mul-le-mul_left}
-use mathlib.Core.Option.{none}
 use mathlib.Core.List.{List, [], ◌∷◌, map}
 use lib.ListN.{length, length-append}
 use Rattle.names.specs.Lists.{In, joined}
@@ -20,7 +20,7 @@ use Rattle.tree.proofs.Instances.{instance-path, at-most-four}
 use Rattle.flat_names.specs.Prefixes.{prefix, flat_name}
 use Rattle.flat_names.proofs.OneName.{prefix-count}
 
-module _ (s : Recipe) (two : 2 ≤ s.width) (h₃ : fault₃ s ≡ none) where
+module _ (s : Recipe) (two : 2 ≤ s.width) (h₃ : fault₃ s ≡ None) where
   -- "the prefix at most 14 bytes"
   pub prefix-bytes : (d m : ℕ) → In m (submodels s d) → length (prefix s m) ≤ s.width + 2
   unfolding prefix
@@ -31,7 +31,7 @@ module _ (s : Recipe) (two : 2 ≤ s.width) (h₃ : fault₃ s ≡ none) where
   prefixes-bytes d (m ∷ p) h =
       rw (length-append, mul-suc) (omega (arith, prefix-bytes d m h.0, prefixes-bytes (model_of s m) p h.1))
 
-  module _ (h₇ : fault₇ s ≡ none) where
+  module _ (h₇ : fault₇ s ≡ None) where
     -- "at most 68 bytes"
     pub flat-name-bytes : (x : Node) → In x (tree_elements s) → length (flat_name s x) ≤ flat_width s.width
     unfolding flat_name flat_width

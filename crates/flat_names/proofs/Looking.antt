@@ -4,10 +4,9 @@ use mathlib.Core.Path.{◌≡◌, refl, sym, ap, ◌∙◌}
 use mathlib.Core.Logic.{⊎_elim}
 use Prim.Native.Nat.{ℕ, ◌+◌, ◌-◌, ◌≤◌, ◌<◌, max}
 use native.Mathlib.Omega.{arith}
-use native.Mathlib.Nat.{add-sub_cancel_left}
 use mathlib.Core.Bool.{Bool, true, false, not, ◌||◌}
 use mathlib.Core.List.{List, [], ◌∷◌, map}
-use lib.ListN.{length, get_or, take, drop, length-drop}
+use lib.ListN.{length, get_or, take, drop, length-drop, length-take}
 use lib.Seq.{take-take, drop-drop, take-add, drop_at, length-take-le, get_or-take, get_or-drop}
 use lib.Dec.{eqb}
 use borrow.Author.Tests.{eqb-true, eq-eqb}
@@ -39,16 +38,14 @@ module _ (s : Recipe) where
   first-is p = let z : p + 1 + 0 ≡ p + 1 = omega arith in ap (λ (k : ℕ). take s.width (drop k s.bytes)) z
 
   -- the length of a name, as the code cuts its field
-  pub name-cut : (p : ℕ) (t : List ℕ) → t ≡ text (take (p + 1 + s.width - (p + 1)) (drop (p + 1) s.bytes)) → length t ≡ length (name s p)
-  unfolding name
-  name-cut p t e =
-      ap length (e ∙ (ap (λ (k : ℕ). text (take k (drop (p + 1) s.bytes))) (add-sub_cancel_left (p + 1) s.width) ∙ ap text (sym (first-is p))))
+  pub name-cut : (p : ℕ) {f t : List ℕ} → f ≡ field_at s.width s.bytes (p + 1) → t ≡ text f → length t ≡ length (name s p)
+  unfolding name field_at
+  name-cut p g e = ap length (e ∙ ap text (g ∙ sym (first-is p)))
 
-  -- the first n bytes of a field, as the code cuts them
-  part_cut : (p n : ℕ) → n ≤ s.width → take (p + 1 + n - (p + 1)) (drop (p + 1) s.bytes) ≡ take n (first_field s p)
-  part_cut p n l =
-      ap (λ (k : ℕ). take k (drop (p + 1) s.bytes)) (add-sub_cancel_left (p + 1) n)
-      ∙ (sym (take-take n s.width (drop (p + 1) s.bytes) l) ∙ ap (take n) (sym (first-is p)))
+  -- the first n bytes of a field
+  first-part : (p n : ℕ) → n ≤ s.width → field_at n s.bytes (p + 1) ≡ take n (first_field s p)
+  unfolding field_at
+  first-part p n l = sym (take-take n s.width (drop (p + 1) s.bytes) l) ∙ ap (take n) (sym (first-is p))
 
   own_name : (m : ℕ) → take (length (name s m)) (first_field s m) ≡ name s m
   unfolding name text
@@ -64,19 +61,18 @@ module _ (s : Recipe) where
   unfolding name
   nonzero-name m = text-nonzero (first_field s m)
 
-  -- the first of them
-  first_byte : (p n : ℕ) → 1 ≤ n → get_or (take (p + 1 + n - (p + 1)) (drop (p + 1) s.bytes)) 0 0 ≡ get_or s.bytes (p + 1) 0
-  first_byte p n l =
-      let z : p + 1 + 0 ≡ p + 1 = omega arith in
-      get_or-take (p + 1 + n - (p + 1)) (drop (p + 1) s.bytes) 0 0 (omega arith) ∙ (get_or-drop (p + 1) s.bytes 0 0 ∙ ap (λ (k : ℕ). get_or s.bytes k 0) z)
+  -- the first of some bytes
+  first_byte : (a k : ℕ) → 1 ≤ k → get_or (take k (drop a s.bytes)) 0 0 ≡ get_or s.bytes a 0
+  first_byte a k l =
+      let z : a + 0 ≡ a = omega arith in
+      get_or-take k (drop a s.bytes) 0 0 (omega arith) ∙ (get_or-drop a s.bytes 0 0 ∙ ap (λ (j : ℕ). get_or s.bytes j 0) z)
 
   -- ---- the run behind the name of m in that of p: the n bytes of both are compared
-  module _ (p m n : ℕ) (e : n ≡ length (name s m)) {b : Bool}
-      (t : b ≡ same (take (p + 1 + n - (p + 1)) (drop (p + 1) s.bytes)) (take (m + 1 + n - (m + 1)) (drop (m + 1) s.bytes))) where
+  module _ (p m n : ℕ) (e : n ≡ length (name s m)) {b : Bool} (t : b ≡ same (field_at n s.bytes (p + 1)) (field_at n s.bytes (m + 1))) where
     compared : b ≡ same (take (length (name s m)) (first_field s p)) (name s m)
     compared =
         let l : n ≤ s.width = omega (arith, name-short s m) in
-        t ∙ rw (part_cut p n l, part_cut m n l, e, own_name m)
+        t ∙ rw (first-part p n l, first-part m n l, e, own_name m)
 
     pub run-other : b ≡ false → 0 ≡ run_behind (name s m) (name s p)
     unfolding name
@@ -99,19 +95,21 @@ module _ (s : Recipe) where
   pub run_none : (p m n : ℕ) → Stem s m n → p + 1 + s.width ≤ length s.bytes
       → not (eqb (get_or s.bytes (p + 1) 0) (get_or s.bytes (m + 1) 0)) || not (eqb (get_or s.bytes (p + 1 + n) 0) 95) ≡ true
       → 0 ≡ run_behind (name s m) (name s p)
+  unfolding field_at
   run_none p m n x r h =
-      let l = x.fits in
       let some = x.some in
-      let a = take (p + 1 + n - (p + 1)) (drop (p + 1) s.bytes) in
-      let b = take (m + 1 + n - (m + 1)) (drop (m + 1) s.bytes) in
+      let a = field_at n s.bytes (p + 1) in
+      let b = field_at n s.bytes (m + 1) in
+      let behind = take (s.width - n) (drop (p + 1 + n) s.bytes) in
       by_cases (same a b)
       (λ t.
-      let first : get_or s.bytes (p + 1) 0 ≡ get_or s.bytes (m + 1) 0 = sym (first_byte p n some) ∙ (ap (λ (z : List ℕ). get_or z 0 0) (same_true a b t) ∙ first_byte m n some) in
+      let first : get_or s.bytes (p + 1) 0 ≡ get_or s.bytes (m + 1) 0 = sym (first_byte (p + 1) n some) ∙ (ap (λ (z : List ℕ). get_or z 0 0) (same_true a b t) ∙ first_byte (m + 1) n some) in
       run-here p m n x.long refl t r 0
-      (counted s.bytes (p + 1 + n) (s.width - n) 0 (omega arith) (omega arith) (λ j q. absurd (omega arith))
+      (counted behind 0 (λ j q. absurd (omega arith))
       (λ q f.
-      let z : p + 1 + n + 0 ≡ p + 1 + n = omega arith in
-      not-both h (rw (eq-eqb (get_or s.bytes (p + 1) 0) (get_or s.bytes (m + 1) 0) first, eq-eqb (get_or s.bytes (p + 1 + n) 0) 95 (rw z at f)) refl))))
+      let there : get_or s.bytes (p + 1 + n) 0 ≡ 95 = sym (first_byte (p + 1 + n) (s.width - n) (omega (arith, length-take (s.width - n) (drop (p + 1 + n) s.bytes)))) ∙ f in
+      not-both h (rw (eq-eqb (get_or s.bytes (p + 1) 0) (get_or s.bytes (m + 1) 0) first, eq-eqb (get_or s.bytes (p + 1 + n) 0) 95 there) refl))
+      (omega arith)))
       (λ t. run-other p m n x.long refl t)
 
   -- ---- kinds

@@ -1,10 +1,10 @@
 -- No two elements of the tree have one flat name, in a recipe that rows 3 and 4 do not refuse; nor two prefixes of one definition.
 -- Assumes nothing.
+use Rattle.std.specs.Prelude.{None}
 use mathlib.Core.Path.{◌≡◌}
 use mathlib.Core.Logic.{⊎_elim}
 use Prim.Native.Nat.{ℕ, ◌≤◌}
 use mathlib.Core.Bool.{true, false}
-use mathlib.Core.Option.{none}
 use mathlib.Core.List.{List, ◌++◌}
 use lib.ListN.{length}
 use Rattle.names.specs.Lists.{In, keep, begins}
@@ -49,7 +49,7 @@ module _ (s : Recipe) where
   submodel-in : (d m : ℕ) → In m (submodels s d) → In (name s m) (declared_names s d)
   submodel-in d m i = declared-in d m (in-submodels s d m i).inside (submodel-declared s d m i).is
 
-  module _ (two : 2 ≤ s.width) (h₃ : fault₃ s ≡ none) where
+  module _ (two : 2 ≤ s.width) (h₃ : fault₃ s ≡ None) where
     -- "the fewest underscores": 2 to w, free, every smaller taken; "the prefix at most 14 bytes", w + 2
     pub prefix-count : (d m : ℕ) → In m (submodels s d) → Count s.width (names_around s m) (name s m) (fewest s.width (names_around s m) (name s m))
     prefix-count d m i = fewest-count s.width two (names_around s m) (name s m) (names-short m) (submodel-name s h₃ d m i) (name-short s m)
@@ -67,7 +67,7 @@ module _ (s : Recipe) where
     free-prefix-inside d m n i j =
         not-any (begins (prefix s m)) (names_around s m) n (prefix-count d m i).free (append_right (declared_names s (holder s m)) (declared_names s (model_of s m)) n j)
 
-    module _ (h₄ : fault₄ s ≡ none) where
+    module _ (h₄ : fault₄ s ≡ None) where
       apart : Apart s
       unfolding prefix with_underscores
       apart =

@@ -5,12 +5,14 @@ use Prim.Native.Nat.{ℕ, ◌+◌, ◌*◌, ◌-◌, ◌≤◌, ◌<◌}
 use native.Mathlib.Omega.{arith}
 use native.Mathlib.Nat.{mul-le-mul_left, mul-le-mul_right, suc-mul}
 use mathlib.Core.List.{List, [], ◌++◌, append_assoc}
-use lib.ListN.{length, get_or, set, take, drop, replicate, length-append, length-set, length-drop, length-replicate, replicate-append-replicate}
-use lib.Seq.{sets, length-take-le}
+use lib.ListN.{length, get_or, take, drop, replicate, length-append, length-drop, length-replicate, replicate-append-replicate}
+use lib.Seq.{paste, sets, sets-eq, length-take-le, take_all}
+use borrow.Rule.Slice.PartMut.{put_mid}
+use Rattle.std.proofs.lemmas.Slice.{put_mid-paste}
 use Rattle.names.specs.Lists.{In, padded}
 use Rattle.names.specs.Names.{field_at}
 use Rattle.names.proofs.Names.{name-padding}
-use Rattle.names.proofs.Stores.{sets-append, put_one}
+use Rattle.names.proofs.Stores.{sets-append}
 use Rattle.names.proofs.Lists.{get_or-in}
 use Rattle.flat_table.specs.Table.{flat_width}
 use Rattle.recipe.specs.Records.{Recipe, field, first_field, name}
@@ -25,19 +27,21 @@ use Rattle.flat_names.specs.Prefixes.{flat_name}
 use Rattle.flat_names.specs.Rows.{Naming, Prefixed, RowsTo, prefixes_of, row_width}
 use Rattle.flat_names.proofs.Lengths.{prefixes-bytes}
 
--- k times x is written
-pub record Repeated (x : ℕ) (out₀ : List ℕ) (at : ℕ) (out : List ℕ) (k : ℕ) : Type 0 where
-  pub long : length out ≡ length out₀
-  pub is : out ≡ sets out₀ at (replicate k x)
+-- ---- a part of a slice that is written over
+pub pasted : (out s : List ℕ) (at n : ℕ) → at + n ≤ length out → n ≤ length s → paste out at s n ≡ sets out at (take n s)
+pasted out s at n room h =
+    let k : length (take n s) ≡ n = length-take-le n s h in
+    sym (sets-eq (take n s) out at (omega arith) ∙ ap (λ (j : ℕ). take at out ++ take n s ++ drop (at + j) out) k)
 
-pub repeated-start : (x : ℕ) (out : List ℕ) (at : ℕ) → Repeated x out at out 0
-repeated-start x out at = record { long = refl; is = refl }
-
-pub repeated-one : {x : ℕ} {out₀ : List ℕ} {at : ℕ} {out : List ℕ} {k : ℕ} → Repeated x out₀ at out k → Repeated x out₀ at (set out (at + k) x) (k + 1)
-repeated-one {x} {out₀} {at} {out} {k} z = record {
-  long = length-set out (at + k) x ∙ z.long;
-  is = put_one out₀ out at (replicate k x) k x (length-replicate k x) z.is ∙ ap (sets out₀ at) (replicate-append-replicate k 1 x);
-}
+-- n times x, in the k bytes from `at` on
+pub filled : (out part : List ℕ) (x at k n : ℕ) → part ≡ replicate (length (take k (drop at out))) x → k ≡ n → at + n ≤ length out
+    → put_mid at k out part ≡ sets out at (replicate n x)
+filled out part x at k n e k-is room =
+    let long : length (take k (drop at out)) ≡ n = length-take-le k (drop at out) (omega (arith, length-drop at out)) ∙ k-is in
+    let whole : part ≡ replicate n x = e ∙ ap (λ (j : ℕ). replicate j x) long in
+    let full : n ≡ length (replicate n x) = sym (length-replicate n x) in
+    put_mid-paste at k out part (replicate n x) n whole (sym k-is) full
+    ∙ (pasted out (replicate n x) at n room (omega arith) ∙ ap (sets out at) (take_all n (replicate n x) (omega arith)))
 
 -- ---- three parts
 pub parts : (out o₁ o₂ o₃ : List ℕ) (at : ℕ) (a b c : List ℕ) (l w : ℕ) → length a ≡ l → length b ≡ w
@@ -82,9 +86,17 @@ pub record NameAt (s : Recipe) (i q : ℕ) : Type 0 where
   pub reads : take s.width (drop (q + 1) s.bytes) ≡ padded s.width (name s q)
   pub named : flat_name s (node (get_or (instances s) i []) q) ≡ prefixes_of s i ++ name s q
 
-pub field_room : (w at n : ℕ) → at + flat_width w ≤ n → at + (5 * w + 8) ≤ n
+field_room : (w at n : ℕ) → at + flat_width w ≤ n → at + (5 * w + 8) ≤ n
 unfolding flat_width
 field_room w at n h = h
+
+-- what writing it needs: its row is inside and has room for the l bytes that are used, and so have the recipe for the name, and the output for the field
+pub record NameRoom (s : Recipe) (pre out : List ℕ) (i q at l row : ℕ) : Type 0 where
+  pub row-is : row ≡ row_width s.width
+  pub row-inside : i * row + row ≤ length pre
+  pub used : l ≤ row
+  pub name-inside : q + 1 + s.width < length s.bytes
+  pub field-inside : at + (5 * s.width + 8) ≤ length out
 
 module _ (s : Recipe) (x : Naming s) where
   pub prefixes-short : (i : ℕ) → i < length (instances s) → length (prefixes_of s i) ≤ row_width s.width
@@ -120,8 +132,19 @@ module _ (s : Recipe) (x : Naming s) where
         named = refl;
       }
 
-  pub row-short : (pre len : List ℕ) (i l : ℕ) → Prefixed s pre len → i < length (instances s) → l ≡ get_or len i 0 → l ≤ row_width s.width
+  row-short : (pre len : List ℕ) (i l : ℕ) → Prefixed s pre len → i < length (instances s) → l ≡ get_or len i 0 → l ≤ row_width s.width
   row-short pre len i l t h c = omega (arith, t.lengths i h, prefixes-short i h)
+
+  pub name-room : {pre len out : List ℕ} {i q at l row : ℕ} → Prefixed s pre len → i < length (instances s) → In (node (get_or (instances s) i []) q) (tree_elements s)
+      → at + flat_width s.width ≤ length out → l ≡ get_or len i 0 → row ≡ row_width s.width → NameRoom s pre out i q at l row
+  name-room {pre} {len} {out} {i} {q} {at} {l} {row} t h e f c r =
+      record {
+        row-is = r;
+        row-inside = rw r (row_inside t h).1;
+        used = rw r (row-short pre len i l t h c);
+        name-inside = (name-at i q h e).inside;
+        field-inside = field_room s.width at (length out) f;
+      }
 
   pub put-name : (pre len : List ℕ) (i q : ℕ) (out o₁ o₂ o₃ : List ℕ) (at l : ℕ) → Prefixed s pre len → i < length (instances s)
       → In (node (get_or (instances s) i []) q) (tree_elements s) → l ≡ get_or len i 0

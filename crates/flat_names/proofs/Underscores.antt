@@ -7,8 +7,8 @@ use native.Mathlib.Omega.{arith}
 use native.Mathlib.Decide.{dec_le}
 use mathlib.Core.Bool.{Bool, true, false, false≢true}
 use mathlib.Core.List.{List, [], ◌∷◌, ◌++◌}
-use lib.ListN.{length, get_or, take, drop, replicate, length-append, length-drop, length-replicate}
-use lib.Seq.{take-append_seam, drop-append_seam, take-take, length-take-le, get_or-take, get_or-drop}
+use lib.ListN.{length, get_or, take, drop, replicate, length-append, length-replicate}
+use lib.Seq.{take-append_seam, drop-append_seam, take-take}
 use lib.Dec.{eqb}
 use borrow.Author.Tests.{eqb-true, eq-eqb, ne_eqb}
 use Rattle.names.specs.Lists.{In, any, every, keep_while, begins}
@@ -279,14 +279,7 @@ behind-other n f h =
     absurd (h (sym (take-take (length n) (length (text f)) f l) ∙ (ap (take (length n)) (take_while non_zero f ∙ r.1) ∙ take-append_seam n r.0))))
     (λ b. rw b)
 
--- ---- a loop that counts them: the k bytes from a on are underscores, and the next is none
-pub counted : (s : List ℕ) (a n k : ℕ) → a + n ≤ length s → k ≤ n → ((j : ℕ) → j < k → get_or s (a + j) 0 ≡ 95) → (k < n → get_or s (a + k) 0 ≡ 95 → ⊥)
-    → k ≡ run_first (take n (drop a s))
+-- ---- a loop that counts them: the first k bytes are underscores, and the next is none
+pub counted : (f : List ℕ) (k : ℕ) → ((j : ℕ) → j < k → get_or f j 0 ≡ 95) → (k < length f → get_or f k 0 ≡ 95 → ⊥) → k ≤ length f → k ≡ run_first f
 unfolding run_first underscore
-counted s a n k h l p e =
-    let f = take n (drop a s) in
-    let m : length f ≡ n = length-take-le n (drop a s) (omega (arith, length-drop a s)) in
-    let at : (j : ℕ) → j < n → get_or f j 0 ≡ get_or s (a + j) 0 = λ j g. get_or-take n (drop a s) j 0 g ∙ get_or-drop a s j 0 in
-    run_length (eqb 95) f k (omega arith)
-    (λ j g. eq-eqb 95 (get_or f j 0) (sym (at j (omega arith) ∙ p j g)))
-    (λ g. ne_eqb 95 (get_or f k 0) (λ q. let u : k < n = omega arith in e u (sym (at k u) ∙ sym q)))
+counted f k p e l = run_length (eqb 95) f k l (λ j g. eq-eqb 95 (get_or f j 0) (sym (p j g))) (λ g. ne_eqb 95 (get_or f k 0) (λ q. e g (sym q)))

@@ -1,7 +1,6 @@
 -- What writing a flat name asks of a recipe, and the table of the prefixes of the instances.
 -- Assumes nothing.
-use Rattle.std.specs.Prelude.{ℕ, ◌+◌, ◌*◌, ◌≤◌, ◌<◌, ◌≡◌, List, [], map, length, get_or, take, drop}
-use Rattle.std.proofs.Math.Option.{none}
+use Rattle.std.specs.Prelude.{ℕ, ◌+◌, ◌*◌, ◌≤◌, ◌<◌, ◌≡◌, List, [], map, length, get_or, take, drop, None}
 use Rattle.names.specs.Lists.{joined}
 use Rattle.recipe.specs.Records.{Recipe, stop}
 use Rattle.recipe.specs.Reading.{fault₃}
@@ -15,8 +14,8 @@ pub record Naming (s : Recipe) : Type 0 where
   pub narrow : s.width ≤ 64
   pub short : length s.bytes ≤ 16384
   pub whole : stop s ≡ length s.bytes
-  pub formed : fault₃ s ≡ none
-  pub small : fault₇ s ≡ none
+  pub formed : fault₃ s ≡ None
+  pub small : fault₇ s ≡ None
 
 -- "the prefixes from main downward", of the instance numbered i
 unfoldable pub prefixes_of : Recipe → ℕ → List ℕ

@@ -17,6 +17,7 @@ ghost use Rattle.flat_names.specs.Prefixes.{declared_names, names_around, fewest
 ghost use Rattle.flat_names.specs.Underscores.{run_first, run_behind, last_try, Stem};
 ghost use Rattle.flat_names.specs.Rows.{Naming, Prefixed, row_width};
 
+use names::field_at;
 use shadow::cell;
 
 // The most rows, one for each instance, and their bytes, for names of 64 bytes.
@@ -42,24 +43,12 @@ pub fn number_at(t: &[u16], i: usize) -> usize
     recipe::wide(t[i])
 }
 
-// Writes n times x from `at` on.
-fn put_same(out: &mut [u8], at: usize, n: usize, x: u8)
-    requires { at + n ≤ length out.old }
-    ensures { out.new ≡ sets out.old at (replicate n x) }
-{
-    let mut i = 0;
-    while i < n {
-        out[at + i] = x;
-        i += 1;
-    }
-}
-
 // Writes n zeros from `at` on.
 pub fn put_zeros(out: &mut [u8], at: usize, n: usize)
     requires { at + n ≤ length out.old }
     ensures { out.new ≡ sets out.old at (replicate n 0) }
 {
-    put_same(out, at, n, 0);
+    out[at..at + n].fill(0);
 }
 
 // Writes the field of the flat name of the element at q in instance i: its row, its name with the zeros behind it, and zeros.
@@ -83,24 +72,12 @@ pub fn put_name(
     put_zeros(out, at + (l + w), row - l);
 }
 
-// The larger of two counts.
-fn larger(a: u8, b: u8) -> u8
-    ensures { result ≡ max a b }
-{
-    if a < b {
-        return b;
-    }
-    a
-}
-
 // How many bytes the name of the record at p has.
 pub fn name_length(s: &[u8], w: usize, p: usize) -> usize
     requires { p + 1 + w ≤ length s.now }
     ensures { result ≡ length (name (recipe_at w s.now) p) }
 {
-    let a = p + 1;
-    let t = names::unpadded(&s[a..a + w]);
-    t.len()
+    names::unpadded(field_at(s, p + 1, w)).len()
 }
 
 // With how many underscores the n bytes from a on begin.
@@ -108,14 +85,11 @@ pub fn count_underscores(s: &[u8], a: usize, n: usize) -> u8
     requires { (a + n ≤ length s.now) × (n ≤ 64) }
     ensures { result ≡ run_first (take n (drop a s.now)) }
 {
-    let end = a + n;
-    let mut p = a;
-    let mut k: u8 = 0;
-    while p < end {
-        if s[p] != UNDERSCORE {
+    let mut k = 0;
+    for b in &s[a..a + n] {
+        if *b != UNDERSCORE {
             return k;
         }
-        p += 1;
         k += 1;
     }
     k
@@ -131,7 +105,7 @@ fn run_behind(s: &[u8], w: usize, p: usize, m: usize, n: usize) -> u8
     if (s[a] != s[b]) | (s[a + n] != UNDERSCORE) {
         return 0;
     }
-    if !names::is_same(&s[a..a + n], &s[b..b + n]) {
+    if !names::is_same(field_at(s, a, n), field_at(s, b, n)) {
         return 0;
     }
     count_underscores(s, a + n, w - n)
@@ -151,11 +125,9 @@ fn raise_count(s: &[u8], w: usize, t: &[u16], d: usize, m: usize, n: usize, u: u
         let k = s[p];
         if (k == 2) | (k == 4) {
             let run = run_behind(s, w, p, m, n);
-            count = larger(count, run + 1);
-            p += recipe::length_by_kind(k, w);
-        } else {
-            p += recipe::length_by_kind(k, w);
+            count = count.max(run + 1);
         }
+        p += recipe::length_by_kind(k, w);
     }
     count
 }
@@ -177,21 +149,9 @@ fn put_underscores(out: &mut [u8], at: usize, u: u8) -> usize
     requires { at + u ≤ length out.old }
     ensures { (result ≡ at + u) × (out.new ≡ sets out.old at (replicate u underscore)) }
 {
-    let n = u as usize;
-    put_same(out, at, n, UNDERSCORE);
-    at + n
-}
-
-// Copies l bytes of the table, from `from` on, to `to`, which is behind them.
-fn copy_row(pre: &mut [u8], from: usize, l: usize, to: usize)
-    requires { (from + l ≤ to) × (to + l ≤ length pre.old) }
-    ensures { pre.new ≡ sets pre.old to (take l (drop from pre.old)) }
-{
-    let mut k = 0;
-    while k < l {
-        pre[to + k] = pre[from + k];
-        k += 1;
-    }
+    let end = at + u as usize;
+    out[at..end].fill(UNDERSCORE);
+    end
 }
 
 // Writes a row to `to`: the l bytes from `from` on, and the prefix of the submodel m. Answers its length.
@@ -210,7 +170,7 @@ fn put_row(
 {
     let n = name_length(s, w, m);
     let u = fewest_underscores(s, w, t, m);
-    copy_row(pre, from, l, to);
+    pre.copy_within(from..from + l, to);
     names::put_bytes(s, m + 1, n, pre, to + l);
     let end = put_underscores(pre, to + (l + n), u);
     end - to
@@ -231,13 +191,11 @@ pub fn fill_prefixes(
 {
     let row = row_width(w);
     len[0] = 0;
-    let mut i = 1;
-    while i < n {
+    for i in 1..n {
         let m = cell(inst, 6 * i, tree::SUBMODEL_RECORD);
         let u = cell(inst, 6 * i, tree::AROUND);
         let l = number_at(len, u);
         let r = put_row(s, w, t, m, pre, u * row, l, i * row);
         len[i] = r as u16;
-        i += 1;
     }
 }

@@ -6,9 +6,9 @@ use mathlib.Core.List.{[]}
 use native.Mathlib.Omega.{arith}
 use native.Mathlib.Nat.{zero-div, zero-mod}
 use borrow.Author.Tests.{le-ltb}
-use Rattle.names.specs.Judging.{judged, are_refusals, NoneApplies}
+use Rattle.names.specs.Judging.{judged, NoneApplies}
 use Rattle.names.proofs.Tests.{by-option}
-use Rattle.names.proofs.Judging.{none-judged, judged-none, refusal-number}
+use Rattle.names.proofs.Judging.{none-judged, judged-none, number-positive}
 use Rattle.flat_table.specs.Table.{Table, Closed, most_rows, table_answer, table_rows, rows_from, row_count, rows, fault₁₄, fault₁₅, fault₁₆, fault₁₇, verdict_of, table_verdict, flat_width, flat_length}
 
 module _ (w : ℕ) (t : Table) where
@@ -21,14 +21,14 @@ module _ (w : ℕ) (t : Table) where
 
   -- no other table has the number 0
   pub accepted-closed : (table_verdict w t).number ≡ 0 → Closed w t
-  unfolding table_verdict verdict_of table_rows table_answer are_refusals
+  unfolding table_verdict verdict_of table_rows table_answer
   accepted-closed z =
       let rows = table_rows (flat_width w) (flat_length w) t in
       let count = row_count (flat_width w) (flat_length w) t in
       let h : NoneApplies rows =
       judged-none rows
       (by-option (judged rows) (λ e. e)
-      (λ r e. let n = ap (λ o. (table_answer o count).number) e in absurd (omega (arith, refusal-number rows refl r e)))) in
+      (λ r e. let n = ap (λ o. (table_answer o count).number) e in absurd (omega (arith, number-positive r.reason)))) in
       record { row₁₄ = h.0; row₁₅ = h.1.0; row₁₆ = h.1.1.0; row₁₇ = h.1.1.1.0 }
 
 -- "An empty table is closed"

@@ -1,6 +1,5 @@
 -- 01's class table. Assumes nothing.
-use Rattle.std.specs.Prelude.{ℕ, Bool, not, ◌&&◌, List, [], ◌∷◌, get_or, leb, eqb}
-use Rattle.std.proofs.Math.Option.{Option, none, some}
+use Rattle.std.specs.Prelude.{ℕ, Bool, not, ◌&&◌, List, [], ◌∷◌, get_or, leb, eqb, None, Option, Some}
 use Rattle.names.specs.Lists.{among}
 
 -- a class of the table
@@ -13,8 +12,8 @@ has_parent c = among c (5 ∷ 7 ∷ [])
 
 -- column Parent: the parent of class c may be a blank, or of class k
 unfoldable pub parent_allowed : ℕ → Option ℕ → Bool
-parent_allowed c none = not (has_parent c)
-parent_allowed c (some k) = has_parent c && eqb k 4
+parent_allowed c None = not (has_parent c)
+parent_allowed c (Some k) = has_parent c && eqb k 4
 
 -- column Reference: the classes that the reference of class 0 (which is none), 1, 2 .. 7 may have
 unfoldable pub reference_table : List (List ℕ)
@@ -22,5 +21,5 @@ reference_table = [] ∷ [] ∷ (1 ∷ []) ∷ [] ∷ (1 ∷ []) ∷ (2 ∷ []) 
 
 -- column Reference: the reference of class c may be a blank, or of class k
 unfoldable pub reference_allowed : ℕ → Option ℕ → Bool
-reference_allowed c none = among c (1 ∷ 3 ∷ 4 ∷ 7 ∷ [])
-reference_allowed c (some k) = among k (get_or reference_table c [])
+reference_allowed c None = among c (1 ∷ 3 ∷ 4 ∷ 7 ∷ [])
+reference_allowed c (Some k) = among k (get_or reference_table c [])

@@ -1,11 +1,11 @@
 -- The flat table and its check: 01's "Table check", and 14 to 17 of "Verdicts". A record of a table is named by its offset.
 -- Assumes nothing.
-use Rattle.std.specs.Prelude.{ℕ, zero, suc, ◌+◌, ◌*◌, ◌/◌, ◌%◌, ◌≡◌, Bool, cond, not, ◌&&◌, ◌||◌, List, [], ◌∷◌, length, get_or, ltb, eqb}
-use Rattle.std.proofs.Math.Option.{Option, none, some}
+use Rattle.std.specs.Prelude.{ℕ, zero, suc, ◌+◌, ◌*◌, ◌/◌, ◌%◌, ◌≡◌, Bool, cond, not, ◌&&◌, ◌||◌, List, [], ◌∷◌, length, get_or, ltb, eqb, None, Option, Some}
 use Rattle.names.specs.Lists.{any, first, holds, same}
 use Rattle.names.specs.Names.{field_at, is_name, is_name_or_blank, is_blank}
 use Rattle.names.specs.declared.Refusal.{Refusal}
-use Rattle.names.specs.Judging.{Row, row, judged}
+use Rattle.names.specs.declared.Reason.TheVariants.{BadTableLength, Malformed, Duplicate, Unlinked}
+use Rattle.names.specs.Judging.{row_number, Row, row, judged}
 use Rattle.flat_table.specs.declared.TableAnswer.{TableAnswer}
 use Rattle.flat_table.specs.Classes.{is_class, parent_allowed, reference_allowed}
 
@@ -23,8 +23,8 @@ refusal n p = record { number = n; place = p; count = 0 }
 
 -- what the check answers of n records: a refusal, or "Acceptance gives number 0, place 0 and the number of records"
 unfoldable pub table_answer : Option Refusal → ℕ → TableAnswer
-table_answer none n = record { number = 0; place = 0; count = n }
-table_answer (some r) n = refusal r.number r.place
+table_answer None n = record { number = 0; place = 0; count = n }
+table_answer (Some r) n = refusal (row_number r.reason) r.place
 
 -- a table whose fields have field_width bytes and whose records row_length
 module _ (field_width row_length : ℕ) where
@@ -61,7 +61,7 @@ module _ (field_width row_length : ℕ) where
 
   -- row 14: "table length not a multiple of 205, or over 209,920"
   unfoldable pub fault₁₄ : Table → Option ℕ
-  fault₁₄ t = cond (not (eqb (length t % row_length) 0) || ltb (most_rows * row_length) (length t)) (some 0) none
+  fault₁₄ t = cond (not (eqb (length t % row_length) 0) || ltb (most_rows * row_length) (length t)) (Some 0) None
 
   -- row 15: "kind not 1 to 7; a field is no name of 1 to 68 characters .. nor an allowed blank"
   unfoldable pub is_malformed_row : Table → ℕ → Bool
@@ -84,17 +84,17 @@ module _ (field_width row_length : ℕ) where
 
   -- row 17: "parent against the class table or not an earlier record"
   unfoldable pub is_parent_row : Table → ℕ → ℕ → Bool
-  is_parent_row t p q = ltb q p && parent_allowed (row_kind t p) (some (row_kind t q))
+  is_parent_row t p q = ltb q p && parent_allowed (row_kind t p) (Some (row_kind t q))
 
   unfoldable pub is_parent_fault : Table → ℕ → Bool
-  is_parent_fault t p = is_link_fault t (row_parent t p) (parent_allowed (row_kind t p) none) (is_parent_row t p)
+  is_parent_fault t p = is_link_fault t (row_parent t p) (parent_allowed (row_kind t p) None) (is_parent_row t p)
 
   -- row 17: "reference against the class table or not a record"
   unfoldable pub is_reference_row : Table → ℕ → ℕ → Bool
-  is_reference_row t p q = reference_allowed (row_kind t p) (some (row_kind t q))
+  is_reference_row t p q = reference_allowed (row_kind t p) (Some (row_kind t q))
 
   unfoldable pub is_reference_fault : Table → ℕ → Bool
-  is_reference_fault t p = is_link_fault t (row_reference t p) (reference_allowed (row_kind t p) none) (is_reference_row t p)
+  is_reference_fault t p = is_link_fault t (row_reference t p) (reference_allowed (row_kind t p) None) (is_reference_row t p)
 
   unfoldable pub is_row_fault : Table → ℕ → Bool
   is_row_fault t p = is_parent_fault t p || is_reference_fault t p
@@ -104,7 +104,7 @@ module _ (field_width row_length : ℕ) where
 
   -- the rows of the check, in the order of judging
   unfoldable pub table_rows : Table → List Row
-  table_rows t = row 14 (fault₁₄ t) ∷ row 15 (fault₁₅ t) ∷ row 16 (fault₁₆ t) ∷ row 17 (fault₁₇ t) ∷ []
+  table_rows t = row BadTableLength (fault₁₄ t) ∷ row Malformed (fault₁₅ t) ∷ row Duplicate (fault₁₆ t) ∷ row Unlinked (fault₁₇ t) ∷ []
 
   -- the first that applies, or acceptance
   unfoldable pub verdict_of : Table → TableAnswer
@@ -124,7 +124,7 @@ table_verdict w t = verdict_of (flat_width w) (flat_length w) t
 
 -- "A table is closed when none of 14 to 17 below applies"; `proofs/Closed.antt` shows that the check passes closed tables and no others
 pub record Closed (w : ℕ) (t : Table) : Type 0 where
-  pub row₁₄ : fault₁₄ (flat_width w) (flat_length w) t ≡ none
-  pub row₁₅ : fault₁₅ (flat_width w) (flat_length w) t ≡ none
-  pub row₁₆ : fault₁₆ (flat_width w) (flat_length w) t ≡ none
-  pub row₁₇ : fault₁₇ (flat_width w) (flat_length w) t ≡ none
+  pub row₁₄ : fault₁₄ (flat_width w) (flat_length w) t ≡ None
+  pub row₁₅ : fault₁₅ (flat_width w) (flat_length w) t ≡ None
+  pub row₁₆ : fault₁₆ (flat_width w) (flat_length w) t ≡ None
+  pub row₁₇ : fault₁₇ (flat_width w) (flat_length w) t ≡ None

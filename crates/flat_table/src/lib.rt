@@ -4,16 +4,16 @@
 #![tactic(auto)]
 
 ghost use Rattle.std.specs.Prelude.{◌≡◌, ◌*◌};
-ghost use Rattle.std.proofs.Math.Option.{none, some};
 ghost use Rattle.names.specs.Lists.{same};
-ghost use Rattle.names.specs.Scans.{scan, found_of};
+ghost use Rattle.names.specs.Judging.{row_number};
+ghost use Rattle.names.specs.Scans.{scan};
 ghost use Rattle.name_index.specs.Index.{name_of};
 ghost use Rattle.flat_table.specs.Classes.{is_class, parent_allowed, reference_allowed};
 ghost use Rattle.flat_table.specs.Table.{is_malformed_row, is_parent_fault, is_reference_fault, is_row_fault, refusal, verdict_of, table_verdict};
 ghost use Rattle.flat_table.specs.Rows.{Fields, RowAt, Rows, RowIndex};
 
 use name_index::Layout;
-use names::Found;
+use names::Reason;
 
 // What the check answers: 01's number, place and count of records.
 #[repr(C)]
@@ -46,40 +46,40 @@ fn is_malformed(table: &[u8], l: Layout, at: usize) -> bool
 }
 
 // The first record to which 15 applies.
-fn first_malformed(table: &[u8], l: Layout, n: usize) -> Found
+fn first_malformed(table: &[u8], l: Layout, n: usize) -> Option<usize>
     requires { Rows table.now l n }
-    ensures { result ≡ found_of (scan (λ p. is_malformed_row l.width l.stride table.now (p * l.stride)) n) }
+    ensures { result ≡ scan (λ p. is_malformed_row l.width l.stride table.now (p * l.stride)) n }
 {
     let mut i = 0;
     while i < n {
         if is_malformed(table, l, i * l.stride) {
-            return Found::At(i);
+            return Some(i);
         }
         i += 1;
     }
-    Found::Nothing
+    None
 }
 
 pub fn parent_may_be_blank(c: u8) -> bool
-    ensures { result ≡ parent_allowed c none }
+    ensures { result ≡ parent_allowed c None }
 {
     !((c == 5) | (c == 7))
 }
 
 pub fn parent_allowed(c: u8, k: u8) -> bool
-    ensures { result ≡ parent_allowed c (some k) }
+    ensures { result ≡ parent_allowed c (Some k) }
 {
     ((c == 5) | (c == 7)) & (k == 4)
 }
 
 pub fn reference_may_be_blank(c: u8) -> bool
-    ensures { result ≡ reference_allowed c none }
+    ensures { result ≡ reference_allowed c None }
 {
     (c == 1) | (c == 3) | (c == 4) | (c == 7)
 }
 
 pub fn reference_allowed(c: u8, k: u8) -> bool
-    ensures { result ≡ reference_allowed c (some k) }
+    ensures { result ≡ reference_allowed c (Some k) }
 {
     ((c == 2) | (c == 4) | (c == 6)) & (k == 1)
         | ((c == 5) | (c == 6)) & (k == 2)
@@ -87,9 +87,16 @@ pub fn reference_allowed(c: u8, k: u8) -> bool
 }
 
 // The record whose flat name is the field f.
-fn find_row(table: &[u8], l: Layout, n: usize, keys: &[u32], index: &[u16], f: &[u8]) -> Found
+fn find_row(
+    table: &[u8],
+    l: Layout,
+    n: usize,
+    keys: &[u32],
+    index: &[u16],
+    f: &[u8],
+) -> Option<usize>
     requires { RowIndex table.now l n keys.now index.now }
-    ensures { result ≡ found_of (scan (λ p. same (name_of table.now l p) f.now) n) }
+    ensures { result ≡ scan (λ p. same (name_of table.now l p) f.now) n }
 {
     name_index::find(table, l, n, keys, index, name_index::hash(f), f)
 }
@@ -104,7 +111,7 @@ fn parent_fault(table: &[u8], l: Layout, n: usize, keys: &[u32], index: &[u16], 
     if names::is_blank(f) {
         return !parent_may_be_blank(table[at]);
     }
-    let Found::At(q) = find_row(table, l, n, keys, index, f) else {
+    let Some(q) = find_row(table, l, n, keys, index, f) else {
         return true;
     };
     let to = q * l.stride;
@@ -128,7 +135,7 @@ fn reference_fault(
     if names::is_blank(f) {
         return !reference_may_be_blank(table[at]);
     }
-    let Found::At(q) = find_row(table, l, n, keys, index, f) else {
+    let Some(q) = find_row(table, l, n, keys, index, f) else {
         return true;
     };
     let to = q * l.stride;
@@ -136,9 +143,9 @@ fn reference_fault(
 }
 
 // The first record to which 17 applies.
-fn first_unlinked(table: &[u8], l: Layout, n: usize, keys: &[u32], index: &[u16]) -> Found
+fn first_unlinked(table: &[u8], l: Layout, n: usize, keys: &[u32], index: &[u16]) -> Option<usize>
     requires { RowIndex table.now l n keys.now index.now }
-    ensures { result ≡ found_of (scan (λ p. is_row_fault l.width l.stride table.now (p * l.stride)) n) }
+    ensures { result ≡ scan (λ p. is_row_fault l.width l.stride table.now (p * l.stride)) n }
 {
     let mut i = 0;
     while i < n {
@@ -146,18 +153,18 @@ fn first_unlinked(table: &[u8], l: Layout, n: usize, keys: &[u32], index: &[u16]
         if parent_fault(table, l, n, keys, index, at)
             | reference_fault(table, l, n, keys, index, at)
         {
-            return Found::At(i);
+            return Some(i);
         }
         i += 1;
     }
-    Found::Nothing
+    None
 }
 
-fn refused(number: u64, place: usize) -> TableAnswer
-    ensures { result ≡ refusal number place }
+fn refused(reason: Reason, place: usize) -> TableAnswer
+    ensures { result ≡ refusal (row_number reason) place }
 {
     TableAnswer {
-        number: number,
+        number: reason.number(),
         place: place as u64,
         count: 0,
     }
@@ -170,24 +177,24 @@ fn check_table(table: &[u8], l: Layout) -> TableAnswer
 {
     let s = l.stride;
     if table.len() % s != 0 {
-        return refused(14, 0);
+        return refused(Reason::BadTableLength, 0);
     }
     if MOST_RECORDS * s < table.len() {
-        return refused(14, 0);
+        return refused(Reason::BadTableLength, 0);
     }
     let n = table.len() / s;
-    if let Found::At(p) = first_malformed(table, l, n) {
-        return refused(15, p * s);
+    if let Some(p) = first_malformed(table, l, n) {
+        return refused(Reason::Malformed, p * s);
     }
     let mut keys = [0u32; MOST_RECORDS];
     name_index::hash_names(table, l, n, &mut keys);
     let mut index = [0u16; MOST_RECORDS];
     name_index::build(table, l, n, &keys, &mut index);
-    if let Found::At(p) = name_index::first_repeat(table, l, n, &keys, &index) {
-        return refused(16, p * s);
+    if let Some(p) = name_index::first_repeat(table, l, n, &keys, &index) {
+        return refused(Reason::Duplicate, p * s);
     }
-    if let Found::At(p) = first_unlinked(table, l, n, &keys, &index) {
-        return refused(17, p * s);
+    if let Some(p) = first_unlinked(table, l, n, &keys, &index) {
+        return refused(Reason::Unlinked, p * s);
     }
     TableAnswer {
         number: 0,

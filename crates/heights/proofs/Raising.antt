@@ -1,18 +1,14 @@
 -- Heights that fall along submodel records: where there are some, no definition reaches itself.
 -- Assumes nothing.
-use mathlib.Core.Path.{◌≡◌, refl, sym, ◌∙◌}
+use Rattle.std.specs.Prelude.{None}
+use mathlib.Core.Path.{◌≡◌, refl}
 use Prim.Native.Nat.{ℕ, ◌+◌, ◌<◌}
 use native.Mathlib.Omega.{arith}
 use mathlib.Core.Bool.{false}
-use mathlib.Core.Option.{none}
 use mathlib.Core.List.{List, [], ◌∷◌}
-use lib.ListN.{length, get_or}
-use Rattle.names.specs.Scans.{found_of}
-use Rattle.names.specs.declared.Found.{Found}
-use Rattle.names.specs.declared.Found.TheVariants.{Nothing}
+use lib.ListN.{get_or}
 use Rattle.names.proofs.Tests.{by_cases}
 use Rattle.names.proofs.Lists.{first-none}
-use Rattle.names.proofs.Scans.{nothing-found, found_nothing}
 use Rattle.recipe.specs.Records.{Recipe}
 use Rattle.recipe.specs.Definitions.{definitions}
 use Rattle.recipe.specs.Reaching.{Reach, direct, onward, reaches}
@@ -32,17 +28,10 @@ module _ (s : Recipe) {t : List ℕ} (h : Heights s t) where
   no_loop : (d : ℕ) → reaches s d d ≡ false
   no_loop d = by_cases (reaches s d d) (λ e. absurd (omega (arith, reach-falls (reaches-plain s d d e)))) (λ e. e)
 
-  pub none-6 : fault₆ s ≡ none
+  pub none-6 : fault₆ s ≡ None
   unfolding fault₆
   none-6 = first-none (λ d. reaches s d d) (definitions s) (λ d i. no_loop d)
 
--- ---- what is promised of the heights, and of row 6
-module _ {s : Recipe} {t₀ t : List ℕ} (g : Linked s t₀) (q : Paired s t₀) (k : Kept s (6 ∷ []) t₀ t) where
-  abbrev pub Judged : Found → Type 0
-  Judged r = (r ≡ found_of (fault₆ s)) × (r ≡ Nothing → Measured s t) × (length t ≡ length t₀)
-
-  pub judged-heights : Heights s t → Judged Nothing
-  judged-heights h = (nothing-found (none-6 s h), λ e. record { linked = linked-heights k g; paired = paired-over k refl q; row₆ = none-6 s h; heights = h }, k.long)
-
-  pub judged-cycle : {r : Found} → (fault₆ s ≡ none → ⊥) → r ≡ found_of (fault₆ s) → Judged r
-  judged-cycle n e = (e, λ z. absurd (n (found_nothing (sym z ∙ e))), k.long)
+-- ---- the heights besides what was known
+pub measured : {s : Recipe} {t₀ t : List ℕ} → Linked s t₀ → Paired s t₀ → Kept s (6 ∷ []) t₀ t → Heights s t → Measured s t
+measured {s} g q k h = record { linked = linked-heights k g; paired = paired-over k refl q; row₆ = none-6 s h; heights = h }

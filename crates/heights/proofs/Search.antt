@@ -13,7 +13,7 @@ use Rattle.names.specs.Lists.{In}
 use Rattle.names.proofs.Tests.{by_cases, three, both_ways}
 use Rattle.names.proofs.Tables.{get_or-zeros}
 use Rattle.recipe.specs.Records.{Recipe}
-use Rattle.recipe.specs.Definitions.{definitions, model_of}
+use Rattle.recipe.specs.Definitions.{definitions, model_of, submodels}
 use Rattle.recipe.specs.Reaching.{Reach, direct, onward, reaches}
 use Rattle.recipe.proofs.Definitions.{model_in}
 use Rattle.recipe.proofs.Reaching.{plain-reaches, reaches-plain, reach-in, reach-append}
@@ -21,7 +21,7 @@ use Rattle.recipe.proofs.Spans.{definition-place}
 use Rattle.shadow.specs.Columns.{Linked}
 use Rattle.shadow.proofs.Cells.{apart}
 use Rattle.heights.specs.Search.{sum, IsMarked, Marks, Marked, ModelBelow}
-use Rattle.heights.proofs.Along.{NextSubmodel, Through, through-start, through-on, through-end, through-model}
+use Rattle.heights.proofs.Along.{Through, submodel-model, through-on, through-one}
 
 -- ---- sums
 sum-set : (xs : List ℕ) (i v : ℕ) → i < length xs → sum (set xs i v) + get_or xs i 0 ≡ sum xs + v
@@ -92,41 +92,36 @@ module _ {mark queue : List ℕ} {tail : ℕ} (r : Marks mark queue tail) where
       set_there,
     )
 
--- ---- the models of the submodels before p of d are marked
+-- ---- the models of the submodels of d are marked, but for those left
 abbrev pub ModelMarked : Recipe → List ℕ → ℕ → Type 0
 ModelMarked s mark m = IsMarked mark (model_of s m)
 
-pub record ExpandLoop (s : Recipe) (d : ℕ) (mark₀ queue₀ : List ℕ) (tail₀ : ℕ) (mark queue : List ℕ) (tail p : ℕ) : Type 0 where
+pub record ExpandLoop (s : Recipe) (d : ℕ) (mark₀ queue₀ : List ℕ) (tail₀ : ℕ) (mark queue : List ℕ) (tail : ℕ) (rs : List ℕ) : Type 0 where
   pub marked : Marked (ModelBelow s d) mark₀ queue₀ tail₀ mark queue tail
-  pub through : Through s d (ModelMarked s mark) p
+  pub through : Through (submodels s d) (ModelMarked s mark) rs
 
 module _ {s : Recipe} {d : ℕ} {mark₀ queue₀ : List ℕ} {tail₀ : ℕ} where
-  pub expand-start : {p : ℕ} → Marks mark₀ queue₀ tail₀ → NextSubmodel s d d p → ExpandLoop s d mark₀ queue₀ tail₀ mark₀ queue₀ tail₀ p
-  expand-start r n = record { marked = marked-none r (ModelBelow s d); through = through-start (ModelMarked s mark₀) n }
-
-  module _ {mark queue : List ℕ} {tail p : ℕ} (u : ExpandLoop s d mark₀ queue₀ tail₀ mark queue tail p) where
-    pub expand-on : {t mark' queue' : List ℕ} {tail' e r : ℕ} → Linked s t → p < length s.bytes → e ≡ get_or t (p + 3) 0
-        → Marked (λ x. x ≡ e) mark queue tail mark' queue' tail' × IsMarked mark' e → NextSubmodel s d p r → ExpandLoop s d mark₀ queue₀ tail₀ mark' queue' tail' r
-    expand-on {t} {mark'} {queue'} {tail'} {e} g l q a n =
+  module _ {mark queue rs : List ℕ} {tail : ℕ} (u : ExpandLoop s d mark₀ queue₀ tail₀ mark queue tail rs) where
+    pub expand-on : {t mark' queue' ts : List ℕ} {tail' e p : ℕ} → Linked s t → rs ≡ p ∷ ts → e ≡ get_or t (p + 3) 0
+        → Marked (λ x. x ≡ e) mark queue tail mark' queue' tail' × IsMarked mark' e → ExpandLoop s d mark₀ queue₀ tail₀ mark' queue' tail' ts
+    expand-on {t} {mark'} {queue'} {ts} {tail'} {e} {p} g h q a =
         let v = u.marked in
         let w = a.0 in
-        let model : e ≡ model_of s p = q ∙ through-model u.through g l in
+        let i = through-one u.through h in
+        let model : e ≡ model_of s p = q ∙ submodel-model g d p i in
         record {
           marked = record {
             right = w.right;
             more = omega (arith, v.more, w.more);
             keeps = λ j k. w.keeps j (v.keeps j k);
             same = λ i k. w.same i (omega (arith, v.more)) ∙ v.same i k;
-            new = λ i o k.
-                by_cases (ltb i tail)
-                (λ b. let z = ltb-true i tail b in rw (w.same i z) (v.new i o z))
-                (λ b. (p, u.through.one l, sym (w.new i (ltb-false i tail b) k ∙ model)));
+            new = λ j o k.
+                by_cases (ltb j tail)
+                (λ b. let z = ltb-true j tail b in rw (w.same j z) (v.new j o z))
+                (λ b. (p, i, sym (w.new j (ltb-false j tail b) k ∙ model)));
           };
-          through = through-on u.through (ModelMarked s mark') n (λ m i k. w.keeps (model_of s m / 13) k) (rw model at a.1);
+          through = through-on u.through (ModelMarked s mark') h (λ m i k. w.keeps (model_of s m / 13) k) (rw model at a.1);
         }
-
-    pub expand-end : length s.bytes ≤ p → Marked (ModelBelow s d) mark₀ queue₀ tail₀ mark queue tail × ((x : ℕ) → ModelBelow s d x → IsMarked mark x)
-    expand-end l = (u.marked, λ x b. rw b.2 at (through-end u.through l b.0 b.1))
 
 -- ---- the search
 sum_zeros : (n : ℕ) → sum (replicate n 0) ≡ 0

@@ -2,21 +2,19 @@
 -- Assumes nothing.
 use mathlib.Core.Path.{◌≡◌, refl, sym, ap, ◌∙◌}
 use mathlib.Core.Logic.{inl, inr}
-use Prim.Native.Nat.{ℕ, suc, ◌+◌, ◌≤◌, ◌<◌}
+use Prim.Native.Nat.{ℕ, suc, ◌+◌, ◌≤◌, ◌<◌, max}
 use native.Mathlib.Omega.{arith}
-use mathlib.Core.Bool.{Bool, true, false, true≢false, false≢true}
-use mathlib.Core.Option.{none}
+use mathlib.Core.Bool.{Bool, true, false, false≢true}
 use mathlib.Core.List.{List, [], ◌∷◌}
 use lib.ListN.{length, get_or, set}
 use lib.Dec.{eqb, ltb}
-use borrow.Author.Tests.{eqb-true, eqb-false, eq-eqb, ltb-true, ltb-false, lt-ltb, le-ltb}
+use borrow.Author.Tests.{eqb-true, eqb-false, eq-eqb, ltb-true, lt-ltb}
 use Rattle.names.specs.Lists.{In, keep}
 use Rattle.names.proofs.Tests.{by_cases, and_left, both, not-both}
 use Rattle.names.proofs.ListOrder.{Rising}
 use Rattle.recipe.specs.Records.{Recipe, record_length, places}
 use Rattle.recipe.specs.Definitions.{definitions, holder, submodels, model_of}
 use Rattle.recipe.specs.Reaching.{Reach, direct}
-use Rattle.recipe.specs.Reading.{fault₆}
 use Rattle.recipe.proofs.Definitions.{model_in, holder_in, definitions-rise}
 use Rattle.recipe.proofs.Reaching.{reach-append}
 use Rattle.recipe.proofs.Rows.{no-cycle}
@@ -25,8 +23,8 @@ use Rattle.shadow.specs.Shadow.{Shadowed, Cell, Kept}
 use Rattle.shadow.specs.Columns.{Linked, Heights}
 use Rattle.shadow.proofs.Cells.{cell_set, cell-kept, kept-all, kept_set, kept_then, Walking, walk_start, walk-place, walk-one, before-next}
 use Rattle.shadow.proofs.Columns.{linked-over}
-use Rattle.heights.specs.Heights.{height_of, is_unseen, is_settled, higher_of, count_of, Partly, HeightsAdded, SettleFromRequires, Grows, Decides}
-use Rattle.heights.proofs.Along.{NextSubmodel, linked-room, definition-low, submodel-after, Through, through-start, through-on, through-end, through-model, through-in}
+use Rattle.heights.specs.Heights.{height_of, is_unseen, is_settled, count_of, Partly, HeightsAdded, SettleFromRequires, Grows, IsCyclic}
+use Rattle.heights.proofs.Along.{Through, definition-low, linked-room, submodel-after, submodel-in, submodel-model, through-end, through-on, through-one, through-start}
 
 -- ---- members that pass a test
 module _ (f g : ℕ → Bool) where
@@ -68,35 +66,12 @@ count_low f s t =
       rising-few 0 (length s.bytes) (definitions s) (definitions-rise s) (λ d i. definition-low s d i) (omega arith),
     )
 
--- ---- a settled height, and the greater of two
+-- ---- a settled height
 settled-some : (h : ℕ) → is_settled h ≡ true → 1 ≤ h
 settled-some h e = ltb-true 0 h (and_left (ltb 0 h) (ltb h 65535) e)
 
 settled_is : (h : ℕ) → 1 ≤ h → h < 65535 → is_settled h ≡ true
 settled_is h a b = both (lt-ltb 0 h a) (lt-ltb h 65535 b)
-
-pub higher-second : (a b : ℕ) → a < b → b ≡ higher_of a b
-higher-second a b l = rw (lt-ltb a b l, higher_of)
-
-pub higher-first : (a b : ℕ) → b ≤ a → a ≡ higher_of a b
-higher-first a b l = rw (le-ltb a b l, higher_of)
-
-higher-over : (a b : ℕ) → (a ≤ higher_of a b) × (b ≤ higher_of a b)
-higher-over a b =
-    by_cases (ltb a b)
-    (λ e. let l = ltb-true a b e in let q = higher-second a b l in (omega arith, omega arith))
-    (λ e. let l = ltb-false a b e in let q = higher-first a b l in (omega arith, omega arith))
-
-higher-under : (a b n : ℕ) → a ≤ n → b ≤ n → higher_of a b ≤ n
-higher-under a b n k l =
-    by_cases (ltb a b) (λ e. omega (arith, higher-second a b (ltb-true a b e))) (λ e. omega (arith, higher-first a b (ltb-false a b e)))
-
--- ---- answers
-pub decides-yes : {s : Recipe} {P : Type 0} → P → Decides s P true
-decides-yes h = record { yes = λ e. h; no = λ e. absurd (true≢false e) }
-
-pub decides-no : {s : Recipe} (P : Type 0) → (fault₆ s ≡ none → ⊥) → Decides s P false
-decides-no P f = record { yes = λ e. absurd (false≢true e); no = λ e. f }
 
 -- ---- what has grown, over two stretches
 module _ {s : Recipe} where
@@ -181,23 +156,23 @@ module _ {s : Recipe} {t₀ : List ℕ} {d : ℕ} (x : SettleFromRequires s t₀
           ));
     }
 
--- ---- the submodels of d before p are settled, no higher than h
+-- ---- the submodels of d are settled, no higher than h, but for those left
 abbrev pub IsUnder : Recipe → List ℕ → ℕ → ℕ → Type 0
 IsUnder s t h m = (is_settled (height_of t (model_of s m)) ≡ true) × (height_of t (model_of s m) ≤ h)
 
-pub record SettleLoop (s : Recipe) (d : ℕ) (t₀ t : List ℕ) (h p : ℕ) : Type 0 where
+pub record SettleLoop (s : Recipe) (d : ℕ) (t₀ t : List ℕ) (h : ℕ) (rs : List ℕ) : Type 0 where
   pub grown : HeightsAdded s t₀ t
   pub partly : Partly s t
   pub few : h ≤ count_of is_settled s t
-  pub through : Through s d (IsUnder s t h) p
+  pub through : Through (submodels s d) (IsUnder s t h) rs
 
 module _ {s : Recipe} {t₀ : List ℕ} {d : ℕ} (x : SettleFromRequires s t₀ d) where
   -- d itself is in progress, or settled already
-  pub meets-itself : {seen : ℕ} → seen ≡ height_of t₀ d → seen ≡ 65535 → fault₆ s ≡ none → ⊥
+  pub meets-itself : {seen : ℕ} → seen ≡ height_of t₀ d → seen ≡ 65535 → IsCyclic s
   meets-itself q e f = no-cycle s f d x.definition (x.path d x.definition (sym q ∙ e))
 
-  pub settled-already : {seen : ℕ} → (seen ≡ height_of t₀ d) × (seen < 65536) → (seen ≡ 65535 → ⊥) → (seen ≡ 0 → ⊥) → Grows s t₀ t₀ d
-  settled-already {seen} q a b = record { partly = x.partly; grown = grown-none t₀; own = rw (← q.0) (settled_is seen (omega arith) (omega (arith, q.1))) }
+  pub settled-already : {seen : ℕ} → (seen ≡ height_of t₀ d) × (seen < 65536) → (seen ≡ 65535 → ⊥) → (seen ≡ 0 → ⊥) → Grows s t₀ t₀ d seen
+  settled-already {seen} q a b = record { partly = x.partly; grown = grown-none t₀; own = rw (← q.0) (settled_is seen (omega arith) (omega (arith, q.1))); height = q.0 }
 
   -- it is not seen yet: now it is in progress
   module _ {t₁ : List ℕ} (q₁ : t₁ ≡ set t₀ (d + 6) 65535) where
@@ -210,19 +185,16 @@ module _ {s : Recipe} {t₀ : List ℕ} {d : ℕ} (x : SettleFromRequires s t₀
     enter-other : (y : ℕ) → In y (definitions s) → (y ≡ d → ⊥) → height_of t₁ y ≡ height_of t₀ y
     enter-other = rw q₁ (put_other x t₀ 65535)
 
-    pub enter-linked : Linked s t₁
-    enter-linked = linked-heights enter-kept x.linked
-
   module _ {t₁ : List ℕ} (q₁ : t₁ ≡ set t₀ (d + 6) 65535) (z : height_of t₀ d ≡ 0) where
-    pub enter : {p : ℕ} → NextSubmodel s d d p → SettleLoop s d t₁ t₁ 0 p
-    enter n = record {
+    pub enter : {rs : List ℕ} → rs ≡ submodels s d → SettleLoop s d t₁ t₁ 0 rs
+    enter e = record {
       grown = grown-none t₁;
-      partly = rw q₁ (put-partly x t₀ 65535 refl (ap is_settled z) x.partly (λ e. absurd (false≢true e)));
+      partly = rw q₁ (put-partly x t₀ 65535 refl (ap is_settled z) x.partly (λ n. absurd (false≢true n)));
       few = omega arith;
-      through = through-start (IsUnder s t₁ 0) n;
+      through = through-start (IsUnder s t₁ 0) e;
     }
 
-    module _ {t : List ℕ} {h p : ℕ} (u : SettleLoop s d t₁ t h p) where
+    module _ {t rs : List ℕ} {h : ℕ} (u : SettleLoop s d t₁ t h rs) where
       pub now-kept : Kept s (6 ∷ []) t₀ t
       now-kept = kept_then (enter-kept q₁) u.grown.kept
 
@@ -256,15 +228,18 @@ module _ {s : Recipe} {t₀ : List ℕ} {d : ℕ} (x : SettleFromRequires s t₀
           absurd (n (sym o ∙ eqb-true (height_of t y) 0 e)))))
           d x.definition (ap is_unseen now-own) (eq-eqb (height_of t₀ d) 0 z)
 
-      module _ {e : ℕ} (l : p < length s.bytes) (q : e ≡ get_or t (p + 3) 0) where
+      module _ {p e : ℕ} {ts : List ℕ} (l : rs ≡ p ∷ ts) (q : e ≡ get_or t (p + 3) 0) where
+        one : In p (submodels s d)
+        one = through-one u.through l
+
         -- what is in progress reaches d, and so its submodel's model
         pub call_enters : SettleFromRequires s t e
         call_enters =
-            let to : Reach s d e = direct p (u.through.one l) (sym (q ∙ through-model u.through now-linked l)) in
+            let to : Reach s d e = direct p one (sym (q ∙ submodel-model now-linked d p one)) in
             record {
               linked = now-linked;
               partly = u.partly;
-              definition = rw q (through-in u.through now-linked l);
+              definition = rw q (submodel-in now-linked d p one);
               path = λ y i k.
                   by_cases (eqb y d)
                   (λ b. rw (eqb-true y d b) to)
@@ -272,20 +247,18 @@ module _ {s : Recipe} {t₀ : List ℕ} {d : ℕ} (x : SettleFromRequires s t₀
             }
 
         -- the submodel's model is settled now
-        pub settle-on : {t' : List ℕ} {k h' r : ℕ} → Grows s t t' e → k ≡ height_of t' e → h' ≡ higher_of h k → NextSubmodel s d p r → SettleLoop s d t₁ t' h' r
-        settle-on {t'} {k} w y v n =
-            let o = higher-over h k in
-            let model : e ≡ model_of s p = q ∙ through-model u.through now-linked l in
-            rw v
+        pub settle-on : {t' : List ℕ} {k : ℕ} → Grows s t t' e k → SettleLoop s d t₁ t' (max h k) ts
+        settle-on {t'} {k} w =
+            let model : e ≡ model_of s p = q ∙ submodel-model now-linked d p one in
             record {
               grown = grown-then u.grown w.grown;
               partly = w.partly;
-              few = higher-under h k (count_of is_settled s t') (omega (arith, u.few, grown-count w.grown)) (omega (arith, y, w.partly.low e (rw q (through-in u.through now-linked l)) w.own));
-              through = through-on u.through (IsUnder s t' (higher_of h k)) n
+              few = omega (arith, u.few, grown-count w.grown, w.height, w.partly.low e (rw q (submodel-in now-linked d p one)) w.own);
+              through = through-on u.through (IsUnder s t' (max h k)) l
                   (λ m i v.
                   let z = model_in s d m i in
-                  (grown-settled w.grown (model_of s m) z v.0, omega (arith, o, v.1, w.grown.same (model_of s m) z (settled-some (height_of t (model_of s m)) v.0))))
-                  (rw (← model) (w.own, omega (arith, o, y)));
+                  (grown-settled w.grown (model_of s m) z v.0, omega (arith, v.1, w.grown.same (model_of s m) z (settled-some (height_of t (model_of s m)) v.0))))
+                  (rw (← model) (w.own, omega (arith, w.height)));
             }
 
       pub height-low : h < 65534
@@ -307,7 +280,7 @@ module _ {s : Recipe} {t₀ : List ℕ} {d : ℕ} (x : SettleFromRequires s t₀
           (put-settled x t (h + 1) now-kept.long (ap is_settled now-own))
           d x.definition (ap is_settled now-own) leave-settled
 
-      pub leave : length s.bytes ≤ p → Grows s t₀ (set t (d + 6) (h + 1)) d
+      pub leave : rs ≡ [] → Grows s t₀ (set t (d + 6) (h + 1)) d (h + 1)
       leave l = record {
         partly = put-partly x t (h + 1) now-kept.long (ap is_settled now-own) u.partly
             (λ e. (omega (arith, u.few, leave-more), λ m i. let v = through-end u.through l m i in (v.0, omega (arith, v.1))));
@@ -323,6 +296,7 @@ module _ {s : Recipe} {t₀ : List ℕ} {d : ℕ} (x : SettleFromRequires s t₀
               (λ q. now-busy y i (eqb-false y d q) (sym (put_other x t (h + 1) y i (eqb-false y d q)) ∙ e));
         };
         own = leave-settled;
+        height = sym leave_own;
       }
 
 -- ---- the definitions of the records before p are settled, and none is in progress
@@ -363,13 +337,13 @@ module _ {s : Recipe} {t₀ t : List ℕ} {p : ℕ} (g : Linked s t₀) (u : Set
         path = λ x i e. absurd (u.idle x i e);
       }
 
-      pub settles_on : {t' : List ℕ} {n : ℕ} → Grows s t t' d → n ≡ record_length s.width (get_or s.bytes p 0) → SettlesLoop s t₀ t' (p + n)
-      settles_on {t'} {n} w e = record {
-        walking = walk-one g.numbered.shadowed u.walking l e w.grown.kept;
+      pub settles_on : {t' : List ℕ} {h : ℕ} → Grows s t t' d h → SettlesLoop s t₀ t' (p + record_length s.width (get_or s.bytes p 0))
+      settles_on w = record {
+        walking = walk-one g.numbered.shadowed u.walking l refl w.grown.kept;
         partly = w.partly;
         idle = λ x i k. u.idle x i (w.grown.busy x i k);
         upto = λ c i k.
-            before-next s p c settles-place (definition-place s c i).0 e k
+            before-next s p c settles-place (definition-place s c i).0 refl k
             (λ z. grown-settled w.grown c i (u.upto c i z))
             (λ z.
             let own : d ≡ c = settles-holder ∙ omega (arith, holder-above s c p i (omega arith), holder-below s p) in

@@ -1,7 +1,6 @@
 -- Heights of definitions, in cell 6 of their records, as they are settled depth first: 0 is a definition not seen yet, 65535 one in progress.
 -- Assumes nothing.
-use Rattle.std.specs.Prelude.{◌≡◌, Bool, true, false, ◌&&◌, List, [], ◌∷◌, ℕ, ◌+◌, ◌≤◌, ◌<◌, length, get_or, ltb, eqb}
-use Rattle.std.proofs.Math.Option.{none}
+use Rattle.std.specs.Prelude.{◌≡◌, Bool, true, ◌&&◌, List, [], ◌∷◌, ℕ, ◌+◌, ◌≤◌, ◌<◌, length, get_or, ltb, eqb, None}
 use Rattle.names.specs.Lists.{In, keep}
 use Rattle.recipe.specs.Records.{Recipe}
 use Rattle.recipe.specs.Definitions.{definitions, submodels, model_of}
@@ -18,10 +17,6 @@ is_unseen h = eqb h 0
 
 abbrev pub is_settled : ℕ → Bool
 is_settled h = ltb 0 h && ltb h 65535
-
--- the greater of two
-abbrev pub higher_of : ℕ → ℕ → ℕ
-higher_of a b = elim (ltb a b) [ true ↦ b | false ↦ a ]
 
 -- how many definitions have a height that passes the test
 abbrev pub count_of : (ℕ → Bool) → Recipe → List ℕ → ℕ
@@ -45,13 +40,13 @@ pub record SettleFromRequires (s : Recipe) (t : List ℕ) (d : ℕ) : Type 0 whe
   pub definition : In d (definitions s)
   pub path : (x : ℕ) → In x (definitions s) → height_of t x ≡ 65535 → Reach s x d
 
--- d is settled besides what was
-pub record Grows (s : Recipe) (t₀ t : List ℕ) (d : ℕ) : Type 0 where
+-- d is settled besides what was, at height h
+pub record Grows (s : Recipe) (t₀ t : List ℕ) (d h : ℕ) : Type 0 where
   pub partly : Partly s t
   pub grown : HeightsAdded s t₀ t
   pub own : is_settled (height_of t d) ≡ true
+  pub height : h ≡ height_of t d
 
--- P holds, or row 6 applies
-pub record Decides (s : Recipe) (P : Type 0) (r : Bool) : Type 0 where
-  pub yes : r ≡ true → P
-  pub no : r ≡ false → fault₆ s ≡ none → ⊥
+-- row 6 applies
+abbrev pub IsCyclic : Recipe → Type 0
+IsCyclic s = fault₆ s ≡ None → ⊥

@@ -2,10 +2,8 @@
 // For the floors above: find_heights. It reads the links in the shadow, and fills the cell HEIGHT of each model.
 #![tactic(auto)]
 
-ghost use Rattle.std.specs.Prelude.{◌≡◌, [], ◌∷◌, ℕ, ◌<◌, length};
+ghost use Rattle.std.specs.Prelude.{◌≡◌, [], ◌∷◌, ℕ, ◌<◌, length, MatchResult};
 ghost use Rattle.names.specs.Lists.{In};
-ghost use Rattle.names.specs.Scans.{found_of};
-ghost use Rattle.names.specs.declared.Found.{Found};
 ghost use Rattle.recipe.specs.Records.{recipe_at};
 ghost use Rattle.recipe.specs.Definitions.{definitions};
 ghost use Rattle.recipe.specs.Reaching.{reaches};
@@ -13,10 +11,10 @@ ghost use Rattle.recipe.specs.Reading.{fault₆};
 ghost use Rattle.shadow.specs.Shadow.{Kept};
 ghost use Rattle.shadow.specs.Columns.{Linked, Paired, Heights, Measured};
 ghost use Rattle.heights.specs.Search.{IsMarked, Marks, Marked, ModelBelow};
-ghost use Rattle.heights.specs.Heights.{higher_of, SettleFromRequires, Grows, Decides};
+ghost use Rattle.heights.specs.Heights.{Grows, IsCyclic, SettleFromRequires};
 
-use names::Found;
-use shadow::{cell, set_cell};
+use recipe::Records;
+use shadow::{SubmodelsOf, cell, set_cell};
 
 // No record is shorter: a definition's place divided by it is a number of its own, and less than MOST_DEFINITIONS.
 const LEAST_RECORD: usize = 13;
@@ -27,6 +25,10 @@ const MOST_DEFINITIONS: usize = 1261;
 const UNSEEN: usize = 0;
 
 const IN_PROGRESS: usize = 65535;
+
+// Some definition reaches itself.
+#[derive(Clone, Copy)]
+struct Cyclic;
 
 // Marks and queues e, where it is not marked yet, and answers the queue's new end.
 fn enqueue(mark: &mut [u8], queue: &mut [u16], tail: usize, e: usize) -> usize
@@ -56,10 +58,8 @@ fn expand(
     ensures { Marked (ModelBelow (recipe_at w s.now) e) mark.old queue.old tail mark.new queue.new result × ((x : ℕ) → ModelBelow (recipe_at w s.now) e x → IsMarked mark.new x) }
 {
     let mut end = tail;
-    let mut p = shadow::next_submodel(s, w, t, e);
-    while p < s.len() {
+    for p in SubmodelsOf::definition(s, w, e) {
         end = enqueue(mark, queue, end, cell(t, p, shadow::MODEL));
-        p = shadow::next_submodel(s, w, t, p);
     }
     end
 }
@@ -82,86 +82,61 @@ fn reaches_itself(s: &[u8], w: usize, t: &[u16], d: usize) -> bool
 }
 
 // The lowest definition that reaches itself.
-fn first_cycle(s: &[u8], w: usize, t: &[u16]) -> Found
+fn first_cycle(s: &[u8], w: usize, t: &[u16]) -> Option<usize>
     requires { Linked (recipe_at w s.now) t.now }
-    ensures { result ≡ found_of (fault₆ (recipe_at w s.now)) }
+    ensures { result ≡ fault₆ (recipe_at w s.now) }
 {
-    let mut p = 0;
-    while p < s.len() {
-        let n = recipe::record_length(s[p], w);
-        if s[p] != 1 {
-            p += n;
-        } else {
-            if reaches_itself(s, w, t, p) {
-                return Found::At(p);
-            }
-            p += n;
+    for p in Records::of(s, w) {
+        if s[p] == 1 && reaches_itself(s, w, t, p) {
+            return Some(p);
         }
     }
-    Found::Nothing
+    None
 }
 
-// The greater of two heights.
-fn higher(a: usize, b: usize) -> usize
-    ensures { result ≡ higher_of a b }
-{
-    if a < b {
-        return b;
-    }
-    a
-}
-
-// Settles the heights of definition d and of all that it reaches; false where one reaches itself.
-fn settle_from(s: &[u8], w: usize, t: &mut [u16], d: usize) -> bool
+// The height of definition d, which is settled with all that it reaches.
+fn settle_from(s: &[u8], w: usize, t: &mut [u16], d: usize) -> Result<usize, Cyclic>
     requires { SettleFromRequires (recipe_at w s.now) t.old d }
-    ensures { Kept (recipe_at w s.now) (6 ∷ []) t.old t.new × Decides (recipe_at w s.now) (Grows (recipe_at w s.now) t.old t.new d) result }
+    ensures { Kept (recipe_at w s.now) (6 ∷ []) t.old t.new × MatchResult result (Grows (recipe_at w s.now) t.old t.new d) (λ _. IsCyclic (recipe_at w s.now)) }
 {
     let seen = cell(t, d, shadow::HEIGHT);
     if seen == IN_PROGRESS {
-        return false;
+        return Err(Cyclic);
     }
     if seen != UNSEEN {
-        return true;
+        return Ok(seen);
     }
     set_cell(t, d, shadow::HEIGHT, IN_PROGRESS);
-    let mut h = 0;
-    let mut p = shadow::next_submodel(s, w, t, d);
-    while p < s.len() {
+    let mut below = 0;
+    for p in SubmodelsOf::definition(s, w, d) {
         let e = cell(t, p, shadow::MODEL);
-        if !settle_from(s, w, t, e) {
-            return false;
-        }
-        h = higher(h, cell(t, e, shadow::HEIGHT));
-        p = shadow::next_submodel(s, w, t, p);
+        below = below.max(settle_from(s, w, t, e)?);
     }
-    set_cell(t, d, shadow::HEIGHT, h + 1);
-    true
+    let height = below + 1;
+    set_cell(t, d, shadow::HEIGHT, height);
+    Ok(height)
 }
 
-// Settles the heights of all definitions, that of each record in turn; false where one reaches itself.
-fn settle(s: &[u8], w: usize, t: &mut [u16]) -> bool
+// Settles the heights of all definitions, that of each record in turn.
+fn settle(s: &[u8], w: usize, t: &mut [u16]) -> Result<(), Cyclic>
     requires { Linked (recipe_at w s.now) t.old }
-    ensures { Kept (recipe_at w s.now) (6 ∷ []) t.old t.new × Decides (recipe_at w s.now) (Heights (recipe_at w s.now) t.new) result }
+    ensures { Kept (recipe_at w s.now) (6 ∷ []) t.old t.new × MatchResult result (λ _. Heights (recipe_at w s.now) t.new) (λ _. IsCyclic (recipe_at w s.now)) }
 {
     shadow::clear_cells(s, w, t, shadow::HEIGHT);
-    let mut p = 0;
-    while p < s.len() {
+    for p in Records::of(s, w) {
         let d = cell(t, p, shadow::DEFINITION_OF);
-        if !settle_from(s, w, t, d) {
-            return false;
-        }
-        p += recipe::record_length(s[p], w);
+        settle_from(s, w, t, d)?;
     }
-    true
+    Ok(())
 }
 
 // The lowest definition that reaches itself; where there is none, the shadow has each definition's height.
-pub fn find_heights(s: &[u8], w: usize, t: &mut [u16]) -> Found
+pub fn find_heights(s: &[u8], w: usize, t: &mut [u16]) -> Option<usize>
     requires { Linked (recipe_at w s.now) t.old × Paired (recipe_at w s.now) t.old }
-    ensures { (result ≡ found_of (fault₆ (recipe_at w s.now))) × (result ≡ Found.Nothing → Measured (recipe_at w s.now) t.new) × (length t.new ≡ length t.old) }
+    ensures { (result ≡ fault₆ (recipe_at w s.now)) × (result ≡ None → Measured (recipe_at w s.now) t.new) × (length t.new ≡ length t.old) }
 {
-    if settle(s, w, t) {
-        return Found::Nothing;
+    match settle(s, w, t) {
+        Ok(()) => None,
+        Err(Cyclic) => first_cycle(s, w, t),
     }
-    first_cycle(s, w, t)
 }

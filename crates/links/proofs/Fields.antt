@@ -1,9 +1,9 @@
 -- The fields of a record that rows 1 to 3 do not refuse: each lies in the recipe, and reads as it must; and what the reader's answer says of the record.
 -- Assumes nothing.
+use Rattle.std.specs.Prelude.{None, Some}
 use mathlib.Core.Path.{◌≡◌, refl, sym, ap, ◌∙◌}
 use mathlib.Core.Logic.{⊎_elim}
 use mathlib.Core.Bool.{Bool, true, false, not, ◌&&◌, ◌||◌}
-use mathlib.Core.Option.{none}
 use mathlib.Core.List.{List}
 use Prim.Native.Nat.{ℕ, ◌+◌, ◌≤◌, ◌<◌}
 use native.Mathlib.Omega.{arith}
@@ -26,7 +26,6 @@ use Rattle.recipe.specs.declared.Mark.{Mark}
 use Rattle.recipe.specs.declared.FactorsFields.{FactorsFields}
 use Rattle.recipe.specs.declared.Record.{Record}
 use Rattle.recipe.specs.declared.Record.TheVariants.{Model, Element, Port, Submodel, Deletion, Replacement, ReplacedBy, Factors}
-use Rattle.recipe.specs.declared.Read.TheVariants.{As, Refused}
 use Rattle.recipe.proofs.Reading.{known, readable, readable-fits}
 use Rattle.recipe.proofs.Bodies.{by_kind, pointer-kind, element-form, port-form, submodel-form, mark-form, factors-form}
 use Rattle.recipe.proofs.Fields.{at-2, at-4, at_8, target_at, refused-form}
@@ -116,12 +115,12 @@ module _ (s : Recipe) (p : ℕ) (i : In p (places s)) where
   owner_at h = first-at (ap (λ (x : Mark). x.owner) h)
 
   -- ---- how they read
-  module _ (h₃ : fault₃ s ≡ none) where
+  module _ (h₃ : fault₃ s ≡ None) where
     form : is_form s p ≡ true
     unfolding fault₃
     form = not-false (is_form s p) (none_first (λ q. not (is_form s q)) (places s) p h₃ i)
 
-    pub not-refused : {X : Type 0} → Refused ≡ reading_of s p → X
+    pub not-refused : {X : Type 0} → None ≡ reading_of s p → X
     not-refused e = not-both (refused-form s p read e) (rw form)
 
     module _ (k : kind s p ≡ 2) where
@@ -190,15 +189,15 @@ module _ (s : Recipe) (p : ℕ) (i : In p (places s)) where
   ReadRight (ReplacedBy m) = (owned_kind (kind s p) ≡ true) × (m ≡ mark_fields s p)
   ReadRight (Factors e) = (kind s p ≡ 8) × (e ≡ factors_fields s p)
 
-  module _ {r : Record} (e : As r ≡ reading_of s p) where
-    as-record : As r ≡ record_of s p
+  module _ {r : Record} (e : Some r ≡ reading_of s p) where
+    as-record : Some r ≡ record_of s p
     unfolding reading_of
     as-record =
         by_cases (is_form s p)
         (λ f. rw f at e)
-        (λ f. let g : As r ≡ Refused = rw f at e in let z : ◌≡◌ {A = ℕ} 0 1 = cc in absurd (omega arith))
+        (λ f. let g : Some r ≡ None = rw f at e in let z : ◌≡◌ {A = ℕ} 0 1 = cc in absurd (omega arith))
 
-    right : (x : Record) → As r ≡ As x → ReadRight x → ReadRight r
+    right : (x : Record) → Some r ≡ Some x → ReadRight x → ReadRight r
     right x h a = let z : r ≡ x = cc in rw z a
 
     pub read_right : ReadRight r

@@ -1,16 +1,15 @@
 -- What each kind of record names and whether row 5 refuses it, by the answers of its look-ups.
 -- Assumes nothing.
+use Rattle.std.specs.Prelude.{None, Some, is_some}
 use mathlib.Core.Path.{◌≡◌, refl, sym, ap, ◌∙◌}
 use mathlib.Core.Logic.{⊎_elim}
 use mathlib.Core.Bool.{Bool, true, false, not, ◌&&◌, ◌||◌, true≢false}
-use mathlib.Core.Option.{none, some}
 use mathlib.Core.List.{List}
 use Prim.Native.Nat.{ℕ, ◌+◌, ◌≤◌, ◌<◌}
 use native.Mathlib.Omega.{arith}
 use lib.ListN.{length, get_or}
 use lib.Dec.{eqb, ltb}
 use borrow.Author.Tests.{eqb-true, not-true}
-use Rattle.names.specs.Lists.{is_some}
 use Rattle.names.specs.Names.{text, is_blank, is_name, is_name_or_blank, field_at}
 use Rattle.names.proofs.Tests.{by_cases, and_left, and_right, or_cases}
 use Rattle.names.proofs.Names.{name-not-blank}
@@ -43,7 +42,7 @@ element-filled : (s : Recipe) (p : ℕ) (f : List ℕ) → is_blank f ≡ false 
 unfolding element_in
 element-filled s p f b = rw (b, element_in)
 
-element-blank : (s : Recipe) (p : ℕ) (f : List ℕ) → is_blank f ≡ true → element_in s p f ≡ none
+element-blank : (s : Recipe) (p : ℕ) (f : List ℕ) → is_blank f ≡ true → element_in s p f ≡ None
 unfolding element_in
 element-blank s p f b = rw (b, element_in)
 
@@ -70,16 +69,16 @@ module _ {s : Recipe} {at fields keys index : List ℕ} {h : Held} (x : RecordRe
 
 -- ---- an element's parent
 module _ (s : Recipe) (p : ℕ) {q : ℕ} (g : FieldAt s (parent_field s p) q) {c : ℕ} (ec : c ≡ class s p) {a : Answer} (ea : a ≡ answer_of (element_in s p (field_at s.width s.bytes q))) where
-  pub parent-missing : {b z : Bool} → a.missing ≡ true → b ≡ is_blank (field_at s.width s.bytes q) → z ≡ parent_allowed c none → not (b && z) ≡ is_parent_fault s p
+  pub parent-missing : {b z : Bool} → a.missing ≡ true → b ≡ is_blank (field_at s.width s.bytes q) → z ≡ parent_allowed c None → not (b && z) ≡ is_parent_fault s p
   unfolding is_parent_fault
   parent-missing m eb ez =
-      let n : element_in s p (parent_field s p) ≡ none = ap (element_in s p) (sym g.is) ∙ answer-none (element_in s p (field_at s.width s.bytes q)) ea m in
+      let n : element_in s p (parent_field s p) ≡ None = ap (element_in s p) (sym g.is) ∙ answer-none (element_in s p (field_at s.width s.bytes q)) ea m in
       by_cases (is_blank (parent_field s p))
       (λ h. rw (eb, g.is, h, ez, ec))
       (λ h. rw (eb, g.is, h, n))
 
   module _ (m : a.missing ≡ false) where
-    there : element_in s p (parent_field s p) ≡ some a.place
+    there : element_in s p (parent_field s p) ≡ Some a.place
     there = ap (element_in s p) (sym g.is) ∙ answer-some (element_in s p (field_at s.width s.bytes q)) ea m
 
     pub parent-room : a.place + 1 + s.width < length s.bytes
@@ -87,7 +86,7 @@ module _ (s : Recipe) (p : ℕ) {q : ℕ} (g : FieldAt s (parent_field s p) q) {
         let r = in-elements s (holder s p) a.place (element-in s p (parent_field s p) a.place there).2 in
         class_low s a.place r.placed r.passes
 
-    pub parent-there : {r : ℕ} {z : Bool} → r ≡ a.place → z ≡ parent_allowed c (some (get_or s.bytes (r + 1 + s.width) 0)) → not (ltb r p && z) ≡ is_parent_fault s p
+    pub parent-there : {r : ℕ} {z : Bool} → r ≡ a.place → z ≡ parent_allowed c (Some (get_or s.bytes (r + 1 + s.width) 0)) → not (ltb r p && z) ≡ is_parent_fault s p
     unfolding is_parent_fault is_parent class byte
     parent-there er ez = rw ((element-in s p (parent_field s p) a.place there).0, there, ez, ec, er)
 

@@ -1,17 +1,16 @@
 -- What a port or mark names, by the cells of its submodel; the loops that fill the cells 3 to 5, and what they have filled.
 -- Assumes nothing.
+use Rattle.std.specs.Prelude.{None, Option, is_some, unwrap_or}
 use mathlib.Core.Path.{◌≡◌, refl, sym, ap, ◌∙◌}
 use mathlib.Core.Logic.{inl, ⊎_elim}
 use mathlib.Core.Bool.{Bool, true, false, cond, not, ◌||◌}
-use mathlib.Core.Option
-use mathlib.Core.Option.{Option, none}
 use mathlib.Core.List.{List, [], ◌∷◌}
 use Prim.Native.Nat.{ℕ, ◌+◌, ◌≤◌, ◌<◌}
 use native.Mathlib.Omega.{arith}
 use lib.ListN.{length, get_or, set}
 use lib.Dec.{eqb}
 use borrow.Author.Tests.{eqb-true, eqb-false, leb-true, not-false}
-use Rattle.names.specs.Lists.{In, first, is_some}
+use Rattle.names.specs.Lists.{In, first}
 use Rattle.names.specs.Names.{text, is_blank, field_at}
 use Rattle.names.proofs.Tests.{by_cases, or_cases, or-none-left, not-both, is-some}
 use Rattle.names.proofs.Lists.{none_first}
@@ -57,7 +56,7 @@ unfolding is_pointing
 not-pointing s p h = rw h
 
 -- ---- a port or mark that names a submodel, of a recipe that row 5 does not refuse
-module _ (s : Recipe) (h₅ : fault₅ s ≡ none) (p : ℕ) (i : In p (places s)) (h : is_pointing s p ≡ true) where
+module _ (s : Recipe) (h₅ : fault₅ s ≡ None) (p : ℕ) (i : In p (places s)) (h : is_pointing s p ≡ true) where
   no-fault : is_submodel_field_fault s p ≡ false
   unfolding fault₅ is_undeclared is_port_fault is_model is_element is_port is_submodel is_mark is_deletion is_replacement is_replaced_by
   no-fault =
@@ -91,8 +90,8 @@ module _ (s : Recipe) (h₅ : fault₅ s ≡ none) (p : ℕ) (i : In p (places s
       omega (arith, place-room s m (definition-place s m (model_in s (holder s p) (submodel_of s p) submodel-in)).0)
 
   -- the answer of the look-up by its way
-  pub target-answered : fault₃ s ≡ none → {y d q : ℕ} → y ≡ way s p → d ≡ model_of s (submodel_of s p) → FieldAt s (target_field s p) q → {a : Answer}
-      → a ≡ answer_of (record_named s (2 + y) d (text (field_at s.width s.bytes q))) → a.place ≡ Option.get_or (named_by s p) 0
+  pub target-answered : fault₃ s ≡ None → {y d q : ℕ} → y ≡ way s p → d ≡ model_of s (submodel_of s p) → FieldAt s (target_field s p) q → {a : Answer}
+      → a ≡ answer_of (record_named s (2 + y) d (text (field_at s.width s.bytes q))) → a.place ≡ unwrap_or (named_by s p) 0
   unfolding named_by answer_of is_way
   target-answered h₃ ey ed g e =
       by_cases (eqb (way s p) 0)
@@ -135,7 +134,7 @@ module _ {s : Recipe} {t : List ℕ} (g : Pointed s t) (p : ℕ) (i : In p (plac
   target-kept v b = rw b
 
   -- ---- name_target, at a port or mark whose cell 4 is not 0
-  module _ (h₃ : fault₃ s ≡ none) (h : is_mark s p || is_port s p ≡ true) {m : ℕ} (em : m ≡ get_or t (p + 4) 0) (n : m ≡ 0 → ⊥)
+  module _ (h₃ : fault₃ s ≡ None) (h : is_mark s p || is_port s p ≡ true) {m : ℕ} (em : m ≡ get_or t (p + 4) 0) (n : m ≡ 0 → ⊥)
       {o : ℕ} (eo : o ≡ part_offset s.width (get_or s.bytes p 0) (submodel_part (get_or s.bytes p 0))) where
     b : is_pointing s p ≡ true
     b = pointing-some h (λ z. n (em ∙ z))
@@ -170,7 +169,7 @@ module _ {s : Recipe} {t : List ℕ} (g : Pointed s t) (p : ℕ) (i : In p (plac
 
       pub target-written : {a : Answer} {v : ℕ} {t' : List ℕ}
           → a ≡ answer_of (record_named s (2 + get_or s.bytes (p + 1 + (o + s.width)) 0) d (text (field_at s.width s.bytes (p + 1 + (o + s.width) + 1))))
-          → v ≡ a.place → t' ≡ set t (p + 5) v → t' ≡ cond (is_pointing s p) (set t (p + 5) (Option.get_or (named_by s p) 0)) t
+          → v ≡ a.place → t' ≡ set t (p + 5) v → t' ≡ cond (is_pointing s p) (set t (p + 5) (unwrap_or (named_by s p) 0)) t
       target-written ea ev et = rw (et, b, ev ∙ target-answered s g.declared p i b h₃ way-byte model_is target-field ea)
 
 pub pointed-over : {s : Recipe} {t₀ t : List ℕ} → Kept s (5 ∷ []) t₀ t → Pointed s t₀ → Pointed s t
@@ -204,23 +203,23 @@ fault-five s e = e
 
 -- ---- name_targets: cell 5 of a record
 abbrev pub name_cell : Recipe → List ℕ → ℕ → ℕ → ℕ
-name_cell s t₀ k p = cond (is_pointing s p) (Option.get_or (named_by s p) 0) (get_or t₀ (p + 5) 0)
+name_cell s t₀ k p = cond (is_pointing s p) (unwrap_or (named_by s p) 0) (get_or t₀ (p + 5) 0)
 
 pub target_row : {s : Recipe} {t₀ t t' : List ℕ} {p : ℕ} → In p (places s) → Filling s (5 ∷ []) (name_cell s t₀) t₀ t p → p + 13 ≤ length t
-    → t' ≡ cond (is_pointing s p) (set t (p + 5) (Option.get_or (named_by s p) 0)) t → RowWritten (5 ∷ []) (name_cell s t₀) p t t'
+    → t' ≡ cond (is_pointing s p) (set t (p + 5) (unwrap_or (named_by s p) 0)) t → RowWritten (5 ∷ []) (name_cell s t₀) p t t'
 target_row {s} {t₀} {t} {t'} {p} i g h e =
     by_cases (is_pointing s p)
-    (λ b. let z : t' ≡ set t (p + 5) (Option.get_or (named_by s p) 0) = rw b at e in rw z (row-set 5 (row-none (name_cell s t₀) p t) (omega arith) (rw b)))
+    (λ b. let z : t' ≡ set t (p + 5) (unwrap_or (named_by s p) 0) = rw b at e in rw z (row-set 5 (row-none (name_cell s t₀) p t) (omega arith) (rw b)))
     (λ b. let z : t' ≡ t = rw b at e in rw z (row-left 5 (row-none (name_cell s t₀) p t) (rw b (g.ahead 5 (inl refl) p i (omega arith)))))
 
 -- ---- all cells are filled
-module _ {s : Recipe} {t₀ t : List ℕ} (h₃ : fault₃ s ≡ none) (h₄ : fault₄ s ≡ none) (g₀ : Pointed s t₀) (own : Cell (places s) 5 (own_of s) t₀)
+module _ {s : Recipe} {t₀ t : List ℕ} (h₃ : fault₃ s ≡ None) (h₄ : fault₄ s ≡ None) (g₀ : Pointed s t₀) (own : Cell (places s) 5 (own_of s) t₀)
     (o : Kept s (5 ∷ []) t₀ t) (f : Cell (places s) 5 (name_cell s t₀ 5) t) where
   g : Pointed s t
   g = pointed-over o g₀
 
   -- a port whose submodel is blank names an element
-  own-named : (r : ℕ) → In r (places s) → is_mark s r || is_port s r ≡ true → is_blank (submodel_field s r) ≡ true → own_of s r ≡ Option.get_or (named_by s r) 0
+  own-named : (r : ℕ) → In r (places s) → is_mark s r || is_port s r ≡ true → is_blank (submodel_field s r) ≡ true → own_of s r ≡ unwrap_or (named_by s r) 0
   unfolding own_of named_by fault₅ is_undeclared is_port_fault is_own_port_fault is_model is_element is_port is_submodel is_way
   own-named r i h b =
       let u : is_undeclared s r ≡ false = none_first (is_undeclared s) (places s) r g.declared i in

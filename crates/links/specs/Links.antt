@@ -1,7 +1,7 @@
 -- What a record names, by the cells it is written to, and what is asked of a record over the index.
 -- Assumes nothing.
-use Rattle.std.specs.Prelude.{ℕ, ◌+◌, ◌≡◌, Bool, true, false, cond, not, ◌&&◌, List, [], ◌∷◌, eqb}
-use Rattle.std.proofs.Math.Option.{none, get_or}
+use Rattle.names.specs.declared.Reason.TheVariants.{Repeated, Undeclared}
+use Rattle.std.specs.Prelude.{ℕ, ◌+◌, ◌≡◌, Bool, true, false, cond, not, ◌&&◌, List, [], ◌∷◌, eqb, None, unwrap_or}
 use Rattle.names.specs.Lists.{In}
 use Rattle.names.specs.Names.{text, is_blank}
 use Rattle.names.specs.Judging.{Row, row}
@@ -16,7 +16,7 @@ use Rattle.record_index.specs.Entries.{IndexRequires}
 
 -- rows 4 and 5, which look at what the records name
 abbrev pub declared_rows : Recipe → List Row
-declared_rows s = row 4 (fault₄ s) ∷ row 5 (fault₅ s) ∷ []
+declared_rows s = row Repeated (fault₄ s) ∷ row Undeclared (fault₅ s) ∷ []
 
 -- a record and its definition, over the index
 pub record RecordRequires (s : Recipe) (at fields keys index : List ℕ) (h : Held) : Type 0 where
@@ -37,23 +37,23 @@ pub record Unowned (s : Recipe) (p q : ℕ) : Type 0 where
 -- cell 3: an element's parent, a mark's owner, a submodel's model, a time factor
 unfoldable pub upper_of : Recipe → ℕ → ℕ
 upper_of s p =
-    cond (is_element s p) (get_or (element_in s p (parent_field s p)) 0)
+    cond (is_element s p) (unwrap_or (element_in s p (parent_field s p)) 0)
     (cond (is_owned s p) (owner_of s p)
     (cond (is_submodel s p) (model_of s p)
-    (cond (is_factors s p) (get_or (element_in s p (time_field s p)) 0) 0)))
+    (cond (is_factors s p) (unwrap_or (element_in s p (time_field s p)) 0) 0)))
 
 -- cell 4: an element's reference, the submodel of a port or mark, 0 of a blank; the submodel of a kind 8
 unfoldable pub lower_of : Recipe → ℕ → ℕ
 lower_of s p =
-    cond (is_element s p) (get_or (element_in s p (reference_field s p)) 0)
+    cond (is_element s p) (unwrap_or (element_in s p (reference_field s p)) 0)
     (cond (is_pointing s p) (submodel_of s p)
-    (cond (is_factors s p) (get_or (scaled_by s p) 0) 0))
+    (cond (is_factors s p) (unwrap_or (scaled_by s p) 0) 0))
 
 -- cell 5: of a port with a blank submodel the element that it names; an extent factor
 unfoldable pub own_of : Recipe → ℕ → ℕ
 own_of s p =
-    cond (is_port s p && is_blank (submodel_field s p) && eqb (way s p) 0) (get_or (element_named s (holder s p) (text (target_field s p))) 0)
-    (cond (is_factors s p) (get_or (element_in s p (extent_field s p)) 0) 0)
+    cond (is_port s p && is_blank (submodel_field s p) && eqb (way s p) 0) (unwrap_or (element_named s (holder s p) (text (target_field s p))) 0)
+    (cond (is_factors s p) (unwrap_or (element_in s p (extent_field s p)) 0) 0)
 
 -- what a record names, cell by cell
 abbrev pub links : Bool → ℕ → ℕ → ℕ → Links
@@ -66,6 +66,6 @@ links_of s p = links (is_undeclared s p) (upper_of s p) (lower_of s p) (own_of s
 -- the cells 3 and 4 of each record, of a recipe that rows 1 to 5 do not refuse
 pub record Pointed (s : Recipe) (t : List ℕ) : Type 0 where
   pub numbered : Numbered s t
-  pub declared : fault₅ s ≡ none
+  pub declared : fault₅ s ≡ None
   pub uppers : Cell (places s) 3 (upper_of s) t
   pub lowers : Cell (places s) 4 (lower_of s) t

@@ -2,13 +2,11 @@
 // For the floors above: resolve_names. The four tables `at`, `fields`, `keys` and `index` are the index of the records, `at` cut to their number.
 #![tactic(auto)]
 
-ghost use Rattle.std.specs.Prelude.{◌≡◌, true, cond, ◌+◌, ◌≤◌, ◌<◌, length, set};
-ghost use Rattle.std.proofs.Math.Option.{none, get_or};
+ghost use Rattle.std.specs.Prelude.{◌≡◌, true, cond, ◌+◌, ◌≤◌, ◌<◌, length, set, unwrap_or, OnOk};
+ghost use Rattle.std.specs.Result.{result_err};
 ghost use Rattle.names.specs.Lists.{In};
 ghost use Rattle.names.specs.Names.{field_at, is_name_or_blank, is_blank};
-ghost use Rattle.names.specs.Scans.{found_of};
-ghost use Rattle.names.specs.Judging.{judged, handed};
-ghost use Rattle.names.specs.declared.Found.TheVariants.{Nothing};
+ghost use Rattle.names.specs.Judging.{judged};
 ghost use Rattle.recipe.specs.Records.{recipe_at, places, owned_kind, kind, submodel_field};
 ghost use Rattle.recipe.specs.Definitions.{element_in, named_by};
 ghost use Rattle.recipe.specs.Reading.{fault₃, is_parent_fault, fault₅};
@@ -18,8 +16,8 @@ ghost use Rattle.shadow.specs.Columns.{Numbered, Linked, Unpaired};
 ghost use Rattle.record_index.specs.Entries.{RecordIndex, IndexRequires, answer_of};
 ghost use Rattle.links.specs.Links.{declared_rows, RecordRequires, Unowned, is_pointing, links_of, own_of, Pointed};
 
-use names::{Found, Refusal};
-use recipe::{ElementFields, FactorsFields, Mark, PortFields, Read, Record, SubmodelFields, Way};
+use names::{Reason, Refusal};
+use recipe::{ElementFields, FactorsFields, Mark, PortFields, Record, SubmodelFields, Way};
 use record_index::{Answer, Sought};
 
 // The most records of a recipe, rounded up, and its most bytes.
@@ -299,7 +297,7 @@ fn link_record(
         lower: 0,
         own: 0,
     };
-    let Read::As(r) = recipe::read_record(s, w, h.place) else {
+    let Some(r) = recipe::read_record(s, w, h.place) else {
         return nothing;
     };
     match r {
@@ -323,9 +321,9 @@ fn link_records(
     keys: &[u32],
     index: &[u16],
     t: &mut [u16],
-) -> Found
+) -> Option<usize>
     requires { IndexRequires (recipe_at w s.now) at.now fields.now keys.now index.now × Numbered (recipe_at w s.now) t.old }
-    ensures { (result ≡ found_of (fault₅ (recipe_at w s.now))) × (result ≡ Nothing → Pointed (recipe_at w s.now) t.new × Cell (places (recipe_at w s.now)) 5 (own_of (recipe_at w s.now)) t.new) }
+    ensures { (result ≡ fault₅ (recipe_at w s.now)) × (result ≡ None → Pointed (recipe_at w s.now) t.new × Cell (places (recipe_at w s.now)) 5 (own_of (recipe_at w s.now)) t.new) }
 {
     let mut p = 0;
     while p < s.len() {
@@ -335,14 +333,14 @@ fn link_records(
         };
         let l = link_record(s, w, at, fields, keys, index, h);
         if l.undeclared {
-            return Found::At(p);
+            return Some(p);
         }
         shadow::set_cell(t, p, shadow::OWNER, recipe::wide(l.upper));
         shadow::set_cell(t, p, shadow::SUBMODEL, recipe::wide(l.lower));
         shadow::set_cell(t, p, shadow::NAMED_RECORD, recipe::wide(l.own));
         p += recipe::record_length(s[p], w);
     }
-    Found::Nothing
+    None
 }
 
 // Writes what the record at p names, if it is a port or mark with a submodel.
@@ -357,7 +355,7 @@ fn name_target(
     p: usize,
 )
     requires { IndexRequires (recipe_at w s.now) at.now fields.now keys.now index.now × (Pointed (recipe_at w s.now) t.old × In p (places (recipe_at w s.now))) }
-    ensures { t.new ≡ cond (is_pointing (recipe_at w s.now) p) (set t.old (p + 5) (get_or (named_by (recipe_at w s.now) p) 0)) t.old }
+    ensures { t.new ≡ cond (is_pointing (recipe_at w s.now) p) (set t.old (p + 5) (unwrap_or (named_by (recipe_at w s.now) p) 0)) t.old }
 {
     let k = s[p];
     if !recipe::is_pointer(k) {
@@ -406,24 +404,24 @@ fn judge_names(
     keys: &[u32],
     index: &[u16],
     t: &mut [u16],
-) -> Refusal
+) -> Result<(), Refusal>
     requires { RecordIndex (recipe_at w s.now) at.now fields.now keys.now index.now × Numbered (recipe_at w s.now) t.old }
-    ensures { (result ≡ handed (judged (declared_rows (recipe_at w s.now)))) × (result.number ≡ 0 → Linked (recipe_at w s.now) t.new × Unpaired (recipe_at w s.now) t.new) }
+    ensures { (result_err result ≡ judged (declared_rows (recipe_at w s.now))) × OnOk result (Linked (recipe_at w s.now) t.new × Unpaired (recipe_at w s.now) t.new) }
 {
-    if let Found::At(p) = record_index::first_repeated(s, w, at, fields, keys, index) {
-        return names::refuse(4, p);
-    }
-    if let Found::At(p) = link_records(s, w, at, fields, keys, index, t) {
-        return names::refuse(5, p);
-    }
+    let repeated = record_index::first_repeated(s, w, at, fields, keys, index);
+    names::judge(Reason::Repeated, repeated)?;
+    names::judge(
+        Reason::Undeclared,
+        link_records(s, w, at, fields, keys, index, t),
+    )?;
     name_targets(s, w, at, fields, keys, index, t);
-    names::refuse(0, 0)
+    Ok(())
 }
 
 // Rows 4 and 5; where neither applies, the cells 3 to 5.
-pub fn resolve_names(s: &[u8], w: usize, t: &mut [u16]) -> Refusal
-    requires { Numbered (recipe_at w s.now) t.old × (fault₃ (recipe_at w s.now) ≡ none) }
-    ensures { (result ≡ handed (judged (declared_rows (recipe_at w s.now)))) × ((result.number ≡ 0 → Linked (recipe_at w s.now) t.new × Unpaired (recipe_at w s.now) t.new) × (length t.new ≡ length t.old)) }
+pub fn resolve_names(s: &[u8], w: usize, t: &mut [u16]) -> Result<(), Refusal>
+    requires { Numbered (recipe_at w s.now) t.old × (fault₃ (recipe_at w s.now) ≡ None) }
+    ensures { (result_err result ≡ judged (declared_rows (recipe_at w s.now))) × (OnOk result (Linked (recipe_at w s.now) t.new × Unpaired (recipe_at w s.now) t.new) × (length t.new ≡ length t.old)) }
 {
     let mut at = [0u16; MOST_RECORDS];
     let mut fields = [0u8; MOST_BYTES];

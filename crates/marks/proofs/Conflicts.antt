@@ -1,11 +1,11 @@
 -- What rows 3, 5, 6 and 9 give of the steps of a chain, and so the five-step limit.
 -- Assumes nothing.
+use Rattle.std.specs.Prelude.{None, Some}
 use mathlib.Core.Path.{◌≡◌, refl, sym, ap, ◌∙◌}
 use mathlib.Core.Logic.{inr}
 use Prim.Native.Nat.{ℕ, ◌+◌, ◌≤◌, ◌<◌}
 use native.Mathlib.Omega.{arith}
 use mathlib.Core.Bool.{Bool, true, false, ◌&&◌, ◌||◌}
-use mathlib.Core.Option.{none, some}
 use mathlib.Core.List.{List, [], ◌∷◌}
 use lib.ListN.{length}
 use lib.Dec.{eqb, ltb}
@@ -43,7 +43,7 @@ module _ (s : Recipe) where
   owner-conflict' q r e = or_left _ _ (or_left _ _ (or_left _ _ (or_right (marks_clash s r q || owner_clash s r q) (owner_clash s q r) e)))
 
   -- ---- row 9
-  module _ (h₉ : fault₉ s ≡ none) where
+  module _ (h₉ : fault₉ s ≡ None) where
     -- no conflict with an earlier record
     pub no-conflict : (q r : Node) → In q (tree_pointers s) → In r (tree_pointers s) → In r.place (places s) → q.place < r.place → conflict s q r ≡ false
     unfolding fault₉ conflicts_with_earlier
@@ -59,7 +59,7 @@ module _ (s : Recipe) where
     apart_marks q r i j l e = not-both e (no-conflict q r (mark-pointer s q i) (mark-pointer s r j) (mark-place s r j) l)
 
     -- the target of a replaced-by is no replacement's
-    no-replacement : (y q r : Node) → In q (tree_marks s) → In r (tree_marks s) → is_replaced_by s r.place ≡ true → aim s r ≡ some y
+    no-replacement : (y q r : Node) → In q (tree_marks s) → In r (tree_marks s) → is_replaced_by s r.place ≡ true → aim s r ≡ Some y
         → replaces s y q ≡ true → ⊥
     unfolding replaces marks_clash same_aim
     no-replacement y q r i j k e f =
@@ -72,14 +72,14 @@ module _ (s : Recipe) where
         (λ l. two_records s q.place r.place rep k l)
         (λ l. apart_marks r q j i l (marks-conflict r q (both (both (is-mark s r j) (is-mark s q i)) rq)))
 
-    module _ (h₃ : fault₃ s ≡ none) (h₅ : fault₅ s ≡ none) (h₆ : fault₆ s ≡ none) where
+    module _ (h₃ : fault₃ s ≡ None) (h₅ : fault₅ s ≡ None) (h₆ : fault₆ s ≡ None) where
       -- row 6: no walk leads from a definition to itself
       no_loop : (d : ℕ) (path : List ℕ) (e : ℕ) → Walk s d path e → 1 ≤ length path → In d (definitions s) → definition_below s d path ≡ d → ⊥
       no_loop d [] e w l i h = omega arith
       no_loop d (k ∷ path) e w l i h = no-cycle s h₆ d i (rw h at (walk-reach s d k path e w))
 
       -- so a replaced-by's owner is not its own target in another instance
-      not_own : (p : ℕ) (t : Node) → In p (places s) → is_replaced_by s p ≡ true → target s p ≡ some t → owner_of s p ≡ t.place → ⊥
+      not_own : (p : ℕ) (t : Node) → In p (places s) → is_replaced_by s p ≡ true → target s p ≡ Some t → owner_of s p ≡ t.place → ⊥
       not_own p t i b e o =
           let w = target-walk s p t e in
           let n = target_below_lem s p t (mark-submodel s h₃ p i (replaced-by-mark s p b)) e in
@@ -88,13 +88,13 @@ module _ (s : Recipe) where
           no_loop (holder s p) t.path t.place w n (holder_in s p i) (sym (walk-holder s (holder s p) t.path t.place w) ∙ held)
 
       -- the target of a replaced-by owns none
-      no-replaced-by : (y q r : Node) → In q (tree_marks s) → In r (tree_marks s) → is_replaced_by s r.place ≡ true → aim s r ≡ some y
+      no-replaced-by : (y q r : Node) → In q (tree_marks s) → In r (tree_marks s) → is_replaced_by s r.place ≡ true → aim s r ≡ Some y
           → owns_by s y q ≡ true → ⊥
       unfolding owns_by owner_clash owner from node
       no-replaced-by y q r i j k e f =
           let by : is_replaced_by s q.place ≡ true = and_left (is_replaced_by s q.place) _ f in
           let o : y ≡ owner s q = same-node y (owner s q) (and_right (is_replaced_by s q.place) _ f) in
-          let c : owner_clash s q r ≡ true = both by (aimed s r (owner s q) (e ∙ ap some o)) in
+          let c : owner_clash s q r ≡ true = both by (aimed s r (owner s q) (e ∙ ap Some o)) in
           three q.place r.place
           (λ l. apart_marks q r i j l (owner-conflict q r c))
           (λ p.
@@ -107,19 +107,19 @@ module _ (s : Recipe) where
       steps = record { above = above s h₃; no-replacement = no-replacement; no-replaced-by = no-replaced-by }
 
       -- "no chain from any element of the tree has more than five steps": after five it has ended
-      pub five-steps : fault₇ s ≡ none → (x : Node) → In x (tree_elements s) → step s (chain_end s x) ≡ none
+      pub five-steps : fault₇ s ≡ None → (x : Node) → In x (tree_elements s) → step s (chain_end s x) ≡ None
       five-steps h₇ x i = chain-ends s steps x (depth s h₇ x.path (in_tree s x i).0)
 
       -- in other words: each chain from an element of the tree has at most five steps, and ends at its `chain_end`
-      pub chain_length : fault₇ s ≡ none → (k : ℕ) (x z : Node) → In x (tree_elements s) → Chain s k x z → (k ≤ 5) × (z ≡ chain_end s x)
+      pub chain_length : fault₇ s ≡ None → (k : ℕ) (x z : Node) → In x (tree_elements s) → Chain s k x z → (k ≤ 5) × (z ≡ chain_end s x)
       unfolding chain_end
       chain_length h₇ k x z i c = chain-is s 5 k x z (five-steps h₇ x i) c
 
-      pub chain-exists : fault₇ s ≡ none → (x : Node) → In x (tree_elements s) → (k : ℕ) × Chain s k x (chain_end s x)
+      pub chain-exists : fault₇ s ≡ None → (x : Node) → In x (tree_elements s) → (k : ℕ) × Chain s k x (chain_end s x)
       unfolding chain_end
       chain-exists h₇ x i = chain-of s 5 x (five-steps h₇ x i)
 
       -- so more steps change nothing
-      pub chain-suffices : fault₇ s ≡ none → (k : ℕ) (x : Node) → In x (tree_elements s) → chain_within (5 + k) s x ≡ chain_end s x
+      pub chain-suffices : fault₇ s ≡ None → (k : ℕ) (x : Node) → In x (tree_elements s) → chain_within (5 + k) s x ≡ chain_end s x
       unfolding chain_end
       chain-suffices h₇ k x i = chain_more s 5 (5 + k) x (omega arith) (five-steps h₇ x i)

@@ -1,9 +1,9 @@
 -- What is gone by 01's sentence and what is gone by the test are the same elements of the tree, where row 5 does not apply.
 -- Assumes nothing.
+use Rattle.std.specs.Prelude.{None}
 use mathlib.Core.Path.{◌≡◌}
 use mathlib.Core.Logic.{⊎_elim}
 use mathlib.Core.Bool.{true, false, ◌||◌, false≢true}
-use mathlib.Core.Option.{none}
 use Rattle.names.specs.Lists.{In, holds}
 use Rattle.names.proofs.Tests.{by-option, not-both, or_left, or_right, or_cases}
 use Rattle.names.proofs.Lists.{any-in, any_some}
@@ -39,7 +39,7 @@ module _ (s : Recipe) where
       by-option (parent_of s x) (λ e. absurd (false≢true (rw e at h))) (λ y e. child e (marked-gone y (rw e at h))))
       (or_cases (is_marked_gone s x) _ g)
 
-  module _ (h₅ : fault₅ s ≡ none) where
+  module _ (h₅ : fault₅ s ≡ None) where
     -- what is gone is found by the test: a reaction has no parent, so no child lies deeper
     pub gone-found : (x : Node) → In x (tree_elements s) → Gone s x → is_gone s x ≡ true
     gone-found x i (removed r j e) = mark-gone x r j (or_left (removes s x r) _ e)

@@ -1,11 +1,11 @@
 -- The marks and ports of the tree and their targets.
 -- Assumes nothing.
+use Rattle.std.specs.Prelude.{None, Some, option_map}
 use Prim.Native.Nat.{◌<◌, ◌≤◌, ℕ}
 use lib.ListN.{length, length-append}
 use mathlib.Core.Bool.{◌&&◌, ◌||◌, false≢true, true}
 use mathlib.Core.List.{List, ◌++◌}
 use mathlib.Core.Logic.{◌⊎◌, inl}
-use mathlib.Core.Option.{map, none, some}
 use mathlib.Core.Path.{◌∙◌, ◌≡◌, ap, sym}
 use native.Mathlib.Omega.{arith}
 use Rattle.names.specs.Lists.{In, begins, first}
@@ -53,23 +53,23 @@ module _ (s : Recipe) where
   is-mark r i = (mark-placed r i).passes
 
   -- ---- the target of a mark or port of the tree
-  pub aim-target : (r x : Node) → aim s r ≡ some x → (t : Node) × (target s r.place ≡ some t) × (x ≡ from r.path t)
+  pub aim-target : (r x : Node) → aim s r ≡ Some x → (t : Node) × (target s r.place ≡ Some t) × (x ≡ from r.path t)
   unfolding aim
   aim-target r x e = some-map (from r.path) (target s r.place) x e
 
-  pub aims : (r x : Node) → aims_at s r x ≡ true → aim s r ≡ some x
+  pub aims : (r x : Node) → aims_at s r x ≡ true → aim s r ≡ Some x
   unfolding aims_at
   aims r x e =
       by-option (aim s r)
       (λ p. absurd (false≢true (rw p at e)))
-      (λ y p. p ∙ ap some (sym (same-node x y (rw p at e))))
+      (λ y p. p ∙ ap Some (sym (same-node x y (rw p at e))))
 
-  pub aimed : (r x : Node) → aim s r ≡ some x → aims_at s r x ≡ true
+  pub aimed : (r x : Node) → aim s r ≡ Some x → aims_at s r x ≡ true
   unfolding aims_at
   aimed r x e = rw e (node-same x)
 
   -- a mark's target lies below its instance, where row 3 does not apply
-  pub above : fault₃ s ≡ none → (x r : Node) → In r (tree_marks s) → aims_at s r x ≡ true → length r.path < length x.path
+  pub above : fault₃ s ≡ None → (x r : Node) → In r (tree_marks s) → aims_at s r x ≡ true → length r.path < length x.path
   unfolding from node
   above h₃ x r i e =
       let t = aim-target r x (aims r x e) in
@@ -85,7 +85,7 @@ module _ (s : Recipe) where
       (and_left (is_mark s q.place && is_port s r.place && begins r.path q.path) _ e))
 
   -- ---- where row 7 does not apply, a mark's or port's target and a mark's owner are elements of the tree
-  pub aim-in : fault₇ s ≡ none → (r x : Node) → In r (tree_pointers s) → aim s r ≡ some x → In x (tree_elements s)
+  pub aim-in : fault₇ s ≡ None → (r x : Node) → In r (tree_pointers s) → aim s r ≡ Some x → In x (tree_elements s)
   unfolding from node definition_at
   aim-in h₇ r x i e =
       let t = aim-target r x e in
@@ -98,7 +98,7 @@ module _ (s : Recipe) where
       (walk-submodels s (definition_at s r.path) t.0.path t.0.place w)))
       (rw (below-append s main r.path t.0.path) (walk-element s (definition_at s r.path) t.0.path t.0.place w)))
 
-  pub owner-in : fault₅ s ≡ none → (r : Node) → In r (tree_pointers s) → (is_replacement s r.place ≡ true) ⊎ (is_replaced_by s r.place ≡ true)
+  pub owner-in : fault₅ s ≡ None → (r : Node) → In r (tree_pointers s) → (is_replacement s r.place ≡ true) ⊎ (is_replaced_by s r.place ≡ true)
       → In (owner s r) (tree_elements s)
   unfolding owner node
   owner-in h₅ r i k =
@@ -106,14 +106,14 @@ module _ (s : Recipe) where
       (rw (pointer-holder r i) at (owner-element s h₅ r.place (pointer-place r i) k))
 
   -- row 8: each mark or port of the tree has a target
-  pub aim-some : fault₈ s ≡ none → (r : Node) → In r (tree_pointers s) → (t : Node) × (aim s r ≡ some (from r.path t))
+  pub aim-some : fault₈ s ≡ None → (r : Node) → In r (tree_pointers s) → (t : Node) × (aim s r ≡ Some (from r.path t))
   unfolding aim
   aim-some h₈ r i =
       let t = target-exists s h₈ r.place (pointer-place r i) (pointer-placed r i).passes in
-      (t.0, ap (map (from r.path)) t.1)
+      (t.0, ap (option_map (from r.path)) t.1)
 
   -- so a step of the chain leads to an element of the tree
-  pub step_in : fault₅ s ≡ none → fault₇ s ≡ none → (x y : Node) → step s x ≡ some y → In y (tree_elements s)
+  pub step_in : fault₅ s ≡ None → fault₇ s ≡ None → (x y : Node) → step s x ≡ Some y → In y (tree_elements s)
   unfolding step step_down replaces
   step_in h₅ h₇ x y e =
       by-option (first (replaces s x) (tree_marks s))

@@ -1,5 +1,6 @@
 -- Row 9 by one pass over the records: the cells say what the earlier records say.
 -- Assumes nothing.
+use Rattle.std.specs.Prelude.{None}
 use Prim.Native.Nat.{◌+◌, ◌<◌, ◌≤◌, suc, zero, ℕ}
 use borrow.Author.Tests.{eqb-false, eqb-true, le-leb, leb-true, lt-ltb, ltb-true}
 use lib.Dec.{eqb, leb, ltb}
@@ -7,7 +8,6 @@ use lib.ListN.{length, replicate}
 use mathlib.Core.Bool.{Bool, ◌&&◌, ◌||◌, and-or_distrib_left, false, false≢true, true, and-false}
 use mathlib.Core.List.{List}
 use mathlib.Core.Logic.{◌⊎◌, inl, inr, ⊎_elim}
-use mathlib.Core.Option.{none}
 use mathlib.Core.Path.{◌∙◌, ◌≡◌, ap, refl, sym}
 use native.Mathlib.Omega.{arith}
 use Rattle.names.specs.Lists.{In, among, any}
@@ -114,7 +114,7 @@ module _ (s : Recipe) where
       ∙ any-cong (λ c. eqb a c || within (suc a) n c) (within a (suc n)) (stamps s q) (λ c j. sym (within-cons a n c))))
 
   -- what a record finds set, among the cells that it asks, is a conflict with an earlier one
-  pub query : fault₅ s ≡ none → fault₇ s ≡ none → fault₈ s ≡ none → (p : ℕ) (t : List ℕ) → Stamped s (λ q. q.place < p) t
+  pub query : fault₅ s ≡ None → fault₇ s ≡ None → fault₈ s ≡ None → (p : ℕ) (t : List ℕ) → Stamped s (λ q. q.place < p) t
       → (r : Node) → In r (tree_pointers s) → (a n a' n' : ℕ) → ((c : ℕ) → asks s r c ≡ within a n c || within a' n' c)
       → any (λ q. ltb q.place p && conflict s q r) (tree_pointers s) ≡ any_set t a n || any_set t a' n'
   query h₅ h₇ h₈ p t h r i a n a' n' e =

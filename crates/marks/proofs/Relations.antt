@@ -1,5 +1,6 @@
 -- Numbers and depths say of two marks or ports what their targets, owners and paths say.
 -- Assumes nothing.
+use Rattle.std.specs.Prelude.{None, Some}
 use Prim.Native.Nat.{suc, ℕ}
 use borrow.Author.Tests.{eq-eqb, eqb-true, le-leb, leb-true, lt-leb, ne_eqb}
 use lib.Dec.{eqb, leb}
@@ -7,7 +8,6 @@ use lib.ListN.{length}
 use mathlib.Core.Bool.{Bool, ◌&&◌, false, true, and-false}
 use mathlib.Core.List.{List, [], ◌++◌, ◌∷◌}
 use mathlib.Core.Logic.{inr}
-use mathlib.Core.Option.{none, some}
 use mathlib.Core.Path.{◌∙◌, ◌≡◌, ap, refl, sym}
 use native.Mathlib.Omega.{arith}
 use Rattle.names.specs.Lists.{In, begins, same}
@@ -58,11 +58,11 @@ and-cong a b true d e f = rw (f refl, ← e)
 and-cong a b false d e f = rw (← e) (and-false a ∙ sym (and-false b))
 
 -- the number of the target that there is
-pub aimed-is : (s : Recipe) (r x : Node) → aim s r ≡ some x → aim_number s r ≡ number s x
+pub aimed-is : (s : Recipe) (r x : Node) → aim s r ≡ Some x → aim_number s r ≡ number s x
 unfolding aim_number
 aimed-is s r x e = rw (e, aim_number)
 
-module _ (s : Recipe) (h₅ : fault₅ s ≡ none) (h₇ : fault₇ s ≡ none) (h₈ : fault₈ s ≡ none) where
+module _ (s : Recipe) (h₅ : fault₅ s ≡ None) (h₇ : fault₇ s ≡ None) (h₈ : fault₈ s ≡ None) where
   pub node-number : (x y : Node) → In x (tree_elements s) → In y (tree_elements s) → same_node x y ≡ eqb (number s x) (number s y)
   node-number x y i j =
       both_ways {a = (same_node x y)} {b = (eqb (number s x) (number s y))}

@@ -1,10 +1,10 @@
 -- Survivors: a child goes with its parent, so a survivor's parent survives; and where row 12 does not apply, so does the end of the chain
 -- from its reference, of a class that its own allows. Assumes nothing.
+use Rattle.std.specs.Prelude.{None, Some}
 use mathlib.Core.Path.{◌≡◌, refl, sym, ◌∙◌}
 use mathlib.Core.Logic.{⊎_elim}
 use Prim.Native.Nat.{ℕ, ◌<◌}
 use mathlib.Core.Bool.{Bool, true, false, not, ◌&&◌, false≢true, true≢false}
-use mathlib.Core.Option.{none, some}
 use lib.Dec.{eqb}
 use borrow.Author.Tests.{eqb-true, eq-eqb, not-true, not-false}
 use Rattle.names.specs.Lists.{In, any, holds}
@@ -37,13 +37,13 @@ module _ (s : Recipe) where
   survives x i g = keep-in (λ y. not (is_gone s y)) (tree_elements s) x i (rw g)
 
   -- ---- "or a child of a gone element", where row 5 does not apply
-  module _ (h₅ : fault₅ s ≡ none) where
+  module _ (h₅ : fault₅ s ≡ None) where
     place_in : (x : Node) → In x (tree_elements s) → In x.place (elements s (holder s x.place))
     place_in x i = rw (element-holder s x i) (in_tree s x i).1
 
     -- what a parent is: a reaction, that stands earlier
-    pub parent-class : (x y : Node) → In x (tree_elements s) → parent_of s x ≡ some y
-        → (y.path ≡ x.path) × (y.place < x.place) × (parent_allowed (class s x.place) (some (class s y.place)) ≡ true)
+    pub parent-class : (x y : Node) → In x (tree_elements s) → parent_of s x ≡ Some y
+        → (y.path ≡ x.path) × (y.place < x.place) × (parent_allowed (class s x.place) (Some (class s y.place)) ≡ true)
     unfolding parent_of node
     parent-class x y i e =
         let r = some-map (node x.path) (element_in s x.place (parent_field s x.place)) y e in
@@ -53,7 +53,7 @@ module _ (s : Recipe) where
         rw r.2 (refl, rw q at f.2, rw q at f.3)
 
     -- and a reaction has no parent
-    pub no-grandparent : (x y : Node) → In x (tree_elements s) → parent_of s x ≡ some y → parent_of s y ≡ none
+    pub no-grandparent : (x y : Node) → In x (tree_elements s) → parent_of s x ≡ Some y → parent_of s y ≡ None
     unfolding parent_allowed has_parent
     no-grandparent x y i e =
         by-option (parent_of s y)
@@ -63,7 +63,7 @@ module _ (s : Recipe) where
         let up = and_left (has_parent (class s y.place)) _ (parent-class y z (parent_in s x y i e) p).2 in
         absurd (false≢true (rw four at up)))
 
-    pub gone-child : (x y : Node) → In x (tree_elements s) → parent_of s x ≡ some y → is_gone s y ≡ true → is_gone s x ≡ true
+    pub gone-child : (x y : Node) → In x (tree_elements s) → parent_of s x ≡ Some y → is_gone s y ≡ true → is_gone s x ≡ true
     unfolding is_gone
     gone-child x y i e g =
         ⊎_elim
@@ -71,14 +71,14 @@ module _ (s : Recipe) where
         (λ (m : holds (is_marked_gone s) (parent_of s y) ≡ true). absurd (false≢true (rw (no-grandparent x y i e) at m)))
         (or_cases (is_marked_gone s y) _ g)
 
-    pub parent-survives : (x y : Node) → In x (survivors s) → parent_of s x ≡ some y → In y (survivors s)
+    pub parent-survives : (x y : Node) → In x (survivors s) → parent_of s x ≡ Some y → In y (survivors s)
     parent-survives x y i e =
         let r = survivor x i in
         survives y (parent_in s x y r.0 e)
         (by_cases (is_gone s y) (λ g. not-both (gone-child x y r.0 e g) r.1) (λ g. g))
 
   -- ---- row 12
-  module _ (h₁₂ : fault₁₂ s ≡ none) where
+  module _ (h₁₂ : fault₁₂ s ≡ None) where
     no-reference-fault : (x : Node) → In x (survivors s) → is_reference_fault s x ≡ false
     unfolding fault₁₂
     no-reference-fault x i =
@@ -87,13 +87,13 @@ module _ (s : Recipe) where
         and_none (eqb x.place x.place) (is_reference_fault s x) (eq-eqb x.place x.place refl)
         (not-any (t x.place) (survivors s) x (none_first (λ p. any (t p) (survivors s)) (places s) x.place h₁₂ placed) i)
 
-    pub blank-reference : (x : Node) → In x (survivors s) → is_blank (reference_field s x.place) ≡ true → reference_allowed (class s x.place) none ≡ true
+    pub blank-reference : (x : Node) → In x (survivors s) → is_blank (reference_field s x.place) ≡ true → reference_allowed (class s x.place) None ≡ true
     unfolding is_reference_fault
-    blank-reference x i b = not-false (reference_allowed (class s x.place) none) (rw b at (no-reference-fault x i))
+    blank-reference x i b = not-false (reference_allowed (class s x.place) None) (rw b at (no-reference-fault x i))
 
     pub filled-reference : (x : Node) → In x (survivors s) → is_blank (reference_field s x.place) ≡ false
-        → (y : Node) × (reference_of s x ≡ some y) × (is_gone s (chain_end s y) ≡ false)
-        × (reference_allowed (class s x.place) (some (class s (chain_end s y).place)) ≡ true)
+        → (y : Node) × (reference_of s x ≡ Some y) × (is_gone s (chain_end s y) ≡ false)
+        × (reference_allowed (class s x.place) (Some (class s (chain_end s y).place)) ≡ true)
     unfolding is_reference_fault is_reference
     filled-reference x i b =
         by-option (reference_of s x)
@@ -103,8 +103,8 @@ module _ (s : Recipe) where
         (y, p, not-true (is_gone s (chain_end s y)) (and_left (not (is_gone s (chain_end s y))) _ h), and_right (not (is_gone s (chain_end s y))) _ h))
 
     -- "That end is never a gone element", nor one of a wrong class
-    pub reference-end : (x y : Node) → In x (survivors s) → reference_of s x ≡ some y
-        → (is_gone s (chain_end s y) ≡ false) × (reference_allowed (class s x.place) (some (class s (chain_end s y).place)) ≡ true)
+    pub reference-end : (x y : Node) → In x (survivors s) → reference_of s x ≡ Some y
+        → (is_gone s (chain_end s y) ≡ false) × (reference_allowed (class s x.place) (Some (class s (chain_end s y).place)) ≡ true)
     unfolding reference_of
     reference-end x y i e =
         let r = some-map (node x.path) (element_in s x.place (reference_field s x.place)) y e in
@@ -113,7 +113,7 @@ module _ (s : Recipe) where
         (rw q at f.2, rw q at f.3)
 
     -- so it survives
-    pub end-survives : fault₅ s ≡ none → fault₇ s ≡ none → (x y : Node) → In x (survivors s) → reference_of s x ≡ some y → In (chain_end s y) (survivors s)
+    pub end-survives : fault₅ s ≡ None → fault₇ s ≡ None → (x y : Node) → In x (survivors s) → reference_of s x ≡ Some y → In (chain_end s y) (survivors s)
     unfolding chain_end
     end-survives h₅ h₇ x y i e =
         survives (chain_end s y) (chain-in s h₅ h₇ 5 y (reference-in s x y (survivor x i).0 e)) (reference-end x y i e).0

@@ -1,5 +1,6 @@
 -- A mark or port in one instance: what the code reads of it, what it asks of the cells and sets in them.
 -- Assumes nothing.
+use Rattle.std.specs.Prelude.{None, Some}
 use Prim.Native.Nat.{◌*◌, ◌+◌, ◌-◌, ◌<◌, ◌≤◌, ℕ}
 use borrow.Author.Tests.{eqb-false, eqb-true}
 use lib.Dec.{eqb, ltb}
@@ -8,8 +9,7 @@ use lib.Seq.{get_or-set_other, get_or-set_same}
 use mathlib.Core.Bool.{Bool, ◌&&◌, ◌||◌, false, or_assoc, or-false, or-true, true}
 use mathlib.Core.List.{List, [], ◌∷◌}
 use mathlib.Core.Logic.{◌⊎◌, ⊎_elim}
-use mathlib.Core.Option.{none, some}
-use mathlib.Core.Path.{◌∙◌, ◌≡◌, ap, refl, sym}
+use mathlib.Core.Path.{◌∙◌, ◌≡◌, ap, refl, subst, sym}
 use native.Mathlib.Omega.{arith}
 use Rattle.names.specs.Lists.{In, among, any}
 use Rattle.names.proofs.Lists.{among_one, among_two}
@@ -23,6 +23,9 @@ use Rattle.recipe.proofs.Spans.{definition-place}
 use Rattle.recipe.specs.Records.{is_element}
 use Rattle.shadow.specs.Columns.{order}
 use Rattle.shadow.proofs.Cells.{row_room}
+use Rattle.recipe.proofs.Reading.{place-low}
+use Rattle.tree.proofs.Steps.{AtRow}
+use Rattle.tree.specs.declared.InstancesOf.{InstancesOf}
 use Rattle.tree.specs.Faults.{fault₈}
 use Rattle.tree.specs.Numbers.{first_at, number, number_in, reach}
 use Rattle.tree.specs.Tree.{Node, definition_at, instances, node, target}
@@ -31,13 +34,15 @@ use Rattle.tree.proofs.Numbering.{number-few}
 use Rattle.tree.proofs.Trees.{first-append}
 use Rattle.names.proofs.Lists.{get_or-in}
 use Rattle.marks.specs.Cells.{MarksRequires, Stamped, aim_number, asks, gone_cell, is_set, mark_cell, meets, owner_cell, port_cell, stamped, stamps}
+use Rattle.marks.specs.declared.Pointer.{Pointer}
 use Rattle.marks.specs.Faults.{conflicts_with_earlier}
 use Rattle.marks.specs.Marks.{conflict, from, owner, tree_pointers}
+use Rattle.marks.specs.Pointers.{InCells, ReadAt, in_row}
 use Rattle.marks.proofs.Marks.{aim-in, aim-some, aim-target, owner-in, pointer-holder}
 use Rattle.marks.proofs.Pass.{not-model, query, stamped-one, stamped-same}
 use Rattle.marks.proofs.Records.{stamped-by, stamped-other, stamped-port}
 use Rattle.marks.proofs.Relations.{aimed-is}
-use Rattle.marks.proofs.Threads.{Along, Done, Holds, SeekLoop, begin, finish, found-one, path, seek-end, seek-turn, this-in, turn}
+use Rattle.marks.proofs.Threads.{Along, Done, Holds, On, SeekLoop, begin, finish, found-one, path, seek-end, seek-turn, this-in, turn}
 
 -- ---- the numbers of targets and owners, from those of their instance
 module _ (s : Recipe) where
@@ -47,12 +52,12 @@ module _ (s : Recipe) where
   number-from path t =
       omega (arith, first-append s main path t.path, ap (λ (d : ℕ). order s d t.place) (below-append s main path t.path))
 
-  reach-is : (p : ℕ) (t : Node) → target s p ≡ some t → reach s p ≡ number_in s (holder s p) t
+  reach-is : (p : ℕ) (t : Node) → target s p ≡ Some t → reach s p ≡ number_in s (holder s p) t
   unfolding reach
   reach-is p t e = rw (e, reach)
 
   -- (b): the target of a record of an instance, by two numbers
-  pub aimed-number : (h₈ : fault₈ s ≡ none) (r : Node) → In r (tree_pointers s) → aim_number s r ≡ first_at s r.path + reach s r.place
+  pub aimed-number : (h₈ : fault₈ s ≡ None) (r : Node) → In r (tree_pointers s) → aim_number s r ≡ first_at s r.path + reach s r.place
   aimed-number h₈ r h =
       let a = aim-some s h₈ r h in
       let t = aim-target s r (from r.path a.0) a.1 in
@@ -136,6 +141,10 @@ module _ {s : Recipe} {t inst : List ℕ} (T : MarksRequires s t inst) (p : ℕ)
             omega (arith, T.planted.measured.linked.owners p here b, row_room T.planted.measured.linked.numbered.shadowed (owner_of s p) (owner-held b).placed),
       )
 
+  -- what `Pointer::read` requires
+  pub read-room : (p < length s.bytes) × ((p + 9 < length t) × (owned_kind (get_or s.bytes p 0) ≡ true → get_or t (p + 3) 0 + 1 < length t))
+  read-room = (omega (arith, place-low s p here), (omega (arith, record-room), owner-asks.1))
+
 -- ---- a mark or port in one instance
 module _ {s : Recipe} {t inst : List ℕ} (T : MarksRequires s t inst) (p : ℕ) (here : In p (places s)) (sort : is_pointer s p ≡ true) where
   abbrev pub it : ℕ → Node
@@ -199,8 +208,12 @@ module _ {s : Recipe} {t inst : List ℕ} (T : MarksRequires s t inst) (p : ℕ)
       depth-eq = q ∙ T.planted.rows.depth i w.holds.0
 
       -- what `meets_any` and `stamp` require
-      pub fits : (f + e < 1024) × ((d ≤ 4) × (replaced_by_kind k ≡ true → f + o < 1024))
-      fits = (aim-few, (omega (arith, depth-eq, depth s T.planted.row₇ (path s i) (get_or-in (instances s) i [] w.holds.0)), λ h. own-few (by-owned h)))
+      fits : InCells (record { kind = k; target = f + e; owner = f + o; depth = d })
+      fits = record {
+        target = aim-few;
+        depth = omega (arith, depth-eq, depth s T.planted.row₇ (path s i) (get_or-in (instances s) i [] w.holds.0));
+        owner = λ h. own-few (by-owned h);
+      }
 
       -- the test of the cells is the test for a conflict with an earlier record
       pub meets-law : (u : List ℕ) → Stamped s (λ q. q.place < p) u → meets u k (f + e) (f + o) d ≡ any (λ q. ltb q.place p && conflict s q (it i)) (tree_pointers s)
@@ -236,7 +249,7 @@ module _ {s : Recipe} {t inst : List ℕ} (T : MarksRequires s t inst) (p : ℕ)
           (set-cell u (12 * (f + e) + (6 + d)) c (omega arith) ∙ ap (λ (b : Bool). is_set u c || b) (sym (among_one c (12 * (f + e) + (6 + d))))))
           (λ a. by_cases (replaced_by_kind k)
           (λ b.
-          let O = F.1.1 b in
+          let O = F.owner b in
           rw (← stamped-by u k (f + e) (f + o) d a b, stamps-by a b) (set-two u (12 * (f + e) + (5 - d)) (12 * (f + o)) c (omega arith) (omega arith)))
           (λ b.
           rw (← stamped-other u k (f + e) (f + o) d a (mark-is a) b, stamps-other a b) (set-two u (12 * (f + e) + (5 - d)) (12 * (f + e) + 11) c (omega arith) (omega arith))))
@@ -245,30 +258,43 @@ module _ {s : Recipe} {t inst : List ℕ} (T : MarksRequires s t inst) (p : ℕ)
       pub entered : (u : List ℕ) (D : Node → Type 0) → length u ≡ 12 * 1024 → Stamped s D u → Stamped s (λ q. D q ⊎ (q ≡ it i)) (stamped u k (f + e) (f + o) d)
       entered u D l S = stamped-one s u (stamped u k (f + e) (f + o) d) D (it i) ptr (λ c. stamped-law u c l) S
 
-  -- ---- the search for a conflict, along the instances
-  module _ (v : ℕ) {k e o f d : ℕ} {z : Bool} {u : List ℕ} (S : Stamped s (λ q. q.place < p) u) (w : Read s t inst p (v - 1) k e o f) (q : d ≡ get_or inst (6 * (v - 1) + 1) 0)
-      (m : z ≡ meets u k (f + e) (f + o) d) where
-    pub check-hit : z ≡ true → true ≡ conflicts_with_earlier s p
-    unfolding conflicts_with_earlier tree_pointers node
-    check-hit h = sym (found-one s (is_pointer s) p (clash s p) (it (v - 1)) (ptr w) refl (sym (meets-law w q u S) ∙ sym m ∙ h))
+  -- ---- one step along the instances: x is what is read of the record, y the same in the instance
+  module _ {a b : InstancesOf} {i : ℕ} (z : AtRow inst a i b) (here-on : On s (holder s p) a.next) {x y : Pointer} (r : ReadAt s.bytes t p x) (e : y ≡ in_row x inst i) where
+    read : Read s t inst p i x.kind x.target x.owner (get_or inst (6 * i + 2) 0)
+    read = record { holds = rw z.number (here-on.holds z.some); kind-is = r.kind; target_is = r.target; owner-is = r.owner; first-is = refl }
 
-    pub check-turn : {x : ℕ} → z ≡ false → Checked s p v → (v ≡ 0 → ⊥) → x ≡ get_or inst (6 * (v - 1) + 5) 0 → Checked s p x
-    check-turn h a n e = seek-turn T (is_pointer s) p here (clash s p) a n e (sym (meets-law w q u S) ∙ sym m ∙ h)
+    pub step-fits : InCells y
+    step-fits = rw e (fits read refl)
+
+    -- the test of its cells
+    module _ {u : List ℕ} {m : Bool} (S : Stamped s (λ q. q.place < p) u) (met : m ≡ meets u y.kind y.target y.owner y.depth) where
+      step-clash : clash s p (it i) ≡ m
+      step-clash = sym (meets-law read refl u S) ∙ sym (rw e at met)
+
+      pub check-hit : m ≡ true → true ≡ conflicts_with_earlier s p
+      unfolding conflicts_with_earlier tree_pointers node
+      check-hit h = sym (found-one s (is_pointer s) p (clash s p) (it i) (ptr read) refl (step-clash ∙ h))
+
+      pub check-turn : m ≡ false → Checked s p a.next → Checked s p b.next
+      check-turn h c = seek-turn T (is_pointer s) p here (clash s p) c z.some z.on (ap (λ (j : ℕ). clash s p (it j)) (sym z.number) ∙ step-clash ∙ h)
+
+    -- its cells are set
+    step-entered : (u : List ℕ) (D : Node → Type 0) → length u ≡ 12 * 1024 → Stamped s D u → Stamped s (λ q. D q ⊎ (q ≡ it (a.next - 1))) (stamped u y.kind y.target y.owner y.depth)
+    step-entered u D l S =
+        subst (λ (j : ℕ). Stamped s (λ q. D q ⊎ (q ≡ it j)) (stamped u y.kind y.target y.owner y.depth)) z.number (rw e (entered read refl u D l S))
+
+    pub enter-turn : (u : List ℕ) {u' : List ℕ} → length u ≡ 12 * 1024 → u' ≡ stamped u y.kind y.target y.owner y.depth → EnterLoop s p u a.next → EnterLoop s p u' b.next
+    enter-turn u l q c =
+        let v = stamped u y.kind y.target y.owner y.depth in
+        rw q
+        (turn T (is_pointer s) (λ D. Stamped s D v) (stamped-same s v) p here (λ D. Stamped s D u) c z.some z.on (λ S. step-entered u (Done s p (a.next - 1)) l S))
 
   pub check-end : {v : ℕ} → Checked s p v → v ≡ 0 → false ≡ conflicts_with_earlier s p
   unfolding conflicts_with_earlier tree_pointers
   check-end a z = sym (seek-end T (is_pointer s) p here (clash s p) a z)
 
-  -- ---- the cells set, along the instances
   pub enter-start : {h v : ℕ} (u : List ℕ) → h ≡ get_or t (p + 0) 0 → v ≡ get_or t (h + 8) 0 → Stamped s (λ q. q.place < p) u → EnterLoop s p u v
   enter-start u a b S = begin T (is_pointer s) (λ D. Stamped s D u) (stamped-same s u) p here a b S
-
-  pub enter-turn : {v k e o f d x : ℕ} (u : List ℕ) {u' : List ℕ} → Read s t inst p (v - 1) k e o f → d ≡ get_or inst (6 * (v - 1) + 1) 0 → length u ≡ 12 * 1024
-      → u' ≡ stamped u k (f + e) (f + o) d → EnterLoop s p u v → (v ≡ 0 → ⊥) → x ≡ get_or inst (6 * (v - 1) + 5) 0 → EnterLoop s p u' x
-  enter-turn {v} {k} {e} {o} {f} {d} u w q l r a n y =
-      rw r
-      (turn T (is_pointer s) (λ D. Stamped s D (stamped u k (f + e) (f + o) d)) (stamped-same s (stamped u k (f + e) (f + o) d)) p here (λ D. Stamped s D u) a n y
-      (λ S. entered w q u (Done s p (v - 1)) l S))
 
   pub enter-end : {v : ℕ} (u : List ℕ) → EnterLoop s p u v → v ≡ 0 → Stamped s (λ q. q.place < next s p) u
   enter-end u a z = finish T (is_pointer s) (λ D. Stamped s D u) (stamped-same s u) p here a z

@@ -1,7 +1,6 @@
 -- The cells of an element, which marks and ports set and ask, and what one record does to the cells.
 -- Assumes nothing.
-use Rattle.std.specs.Prelude.{◌*◌, ◌+◌, ◌-◌, suc, zero, ℕ, eqb, leb, ltb, get_or, length, set, Bool, ◌&&◌, ◌||◌, cond, false, not, true, List, [], ◌∷◌, ◌≡◌}
-use Rattle.std.proofs.Math.Option.{none, some}
+use Rattle.std.specs.Prelude.{◌*◌, ◌+◌, ◌-◌, suc, zero, ℕ, eqb, leb, ltb, get_or, length, set, Bool, ◌&&◌, ◌||◌, cond, false, not, true, List, [], ◌∷◌, ◌≡◌, None, Some}
 use Rattle.names.specs.Lists.{In, among}
 use Rattle.recipe.specs.Records.{Recipe, is_port, is_replaced_by, port_kind, replaced_by_kind, mark_kind}
 use Rattle.tree.specs.Numbers.{number}
@@ -12,7 +11,7 @@ use Rattle.marks.specs.Marks.{aim, owner, tree_pointers}
 
 -- the number of a target (0 where there is none, which row 8 refuses)
 unfoldable pub aim_number : Recipe → Node → ℕ
-aim_number s r = elim (aim s r) [ none ↦ 0 | some x ↦ number s x ]
+aim_number s r = elim (aim s r) [ None ↦ 0 | Some x ↦ number s x ]
 
 -- ---- each element has twelve cells
 -- 0: it owns a replaced-by
@@ -72,7 +71,7 @@ AllStamped s t = Stamped s (λ q. Unit {0}) t
 -- what the passes over elements require: rows 1 to 8 do not apply
 pub record ElementsRequires (s : Recipe) (t : List ℕ) : Type 0 where
   pub aimed : Aimed s t
-  pub row₇ : fault₇ s ≡ none
+  pub row₇ : fault₇ s ≡ None
 
 -- what those over marks and ports require: and the rows of the instances
 abbrev pub MarksRequires : Recipe → List ℕ → List ℕ → Type 0

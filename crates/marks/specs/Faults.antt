@@ -1,7 +1,7 @@
 -- 01's "Verdicts", rows 9, 11 and 12, and Paper 2's row 20, that speak of main's tree alone: of each row the lowest place where it applies, if any.
 -- Assumes nothing.
-use Rattle.std.specs.Prelude.{ℕ, Bool, cond, not, ◌&&◌, ◌||◌, List, [], ◌∷◌, ltb, eqb}
-use Rattle.std.proofs.Math.Option.{Option, none, some, map}
+use Rattle.names.specs.declared.Reason.TheVariants.{Conflicting, Misclassed, Lost, Misreferred, Misfactored}
+use Rattle.std.specs.Prelude.{ℕ, Bool, cond, not, ◌&&◌, ◌||◌, List, [], ◌∷◌, ltb, eqb, None, Option, Some, option_map}
 use Rattle.names.specs.Lists.{any, first, holds}
 use Rattle.names.specs.Names.{is_blank}
 use Rattle.names.specs.Judging.{Row, row}
@@ -31,13 +31,13 @@ fault₁₁ s = first (aims_at_gone s) (places s)
 
 -- row 12, "its chain ends at a gone element or a wrong class": the end z does for the survivor x
 unfoldable pub is_reference : Recipe → Node → Node → Bool
-is_reference s x z = not (is_gone s z) && reference_allowed (class s x.place) (some (class s z.place))
+is_reference s x z = not (is_gone s z) && reference_allowed (class s x.place) (Some (class s z.place))
 
 -- row 12: "a survivor's reference is blank or filled against its class, names no element of its definition, or its chain ends .."
 unfoldable pub is_reference_fault : Recipe → Node → Bool
 is_reference_fault s x =
     cond (is_blank (reference_field s x.place))
-    (not (reference_allowed (class s x.place) none))
+    (not (reference_allowed (class s x.place) None))
     (not (holds (λ y. is_reference s x (chain_end s y)) (reference_of s x)))
 
 -- row 12, at the element record of such a survivor
@@ -46,7 +46,7 @@ fault₁₂ s = first (λ p. any (λ x. eqb x.place p && is_reference_fault s x)
 
 -- Paper 2, "Factors follow the chain as references do": the element that the factor field f of the kind 8 x names, in its own instance; none for a blank
 unfoldable pub factor_named : Recipe → Node → List ℕ → Option Node
-factor_named s x f = map (node x.path) (element_in s x.place f)
+factor_named s x f = option_map (node x.path) (element_in s x.place f)
 
 -- row 20, "ends gone or is no class 3": the end z does for a factor
 unfoldable pub is_factor : Recipe → Node → Bool
@@ -70,8 +70,8 @@ fault₂₀ s = first (is_unfactored s) (places s)
 
 -- rows 9 to 11 in the order of judging, which look at the marks
 abbrev pub mark_rows : Recipe → List Row
-mark_rows s = row 9 (fault₉ s) ∷ row 10 (fault₁₀ s) ∷ row 11 (fault₁₁ s) ∷ []
+mark_rows s = row Conflicting (fault₉ s) ∷ row Misclassed (fault₁₀ s) ∷ row Lost (fault₁₁ s) ∷ []
 
 -- and rows 12 and 20, which look at references and factors
 abbrev pub reference_rows : Recipe → List Row
-reference_rows s = row 12 (fault₁₂ s) ∷ row 20 (fault₂₀ s) ∷ []
+reference_rows s = row Misreferred (fault₁₂ s) ∷ row Misfactored (fault₂₀ s) ∷ []

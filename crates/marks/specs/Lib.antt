@@ -2,3 +2,4 @@
 pub mod Marks
 pub mod Faults
 pub mod Cells
+pub mod Pointers

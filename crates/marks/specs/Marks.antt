@@ -1,7 +1,6 @@
 -- 01's "Gone, and the chain": marks and ports of the tree, what is gone, the chain, and which records conflict.
 -- Assumes nothing.
-use Rattle.std.specs.Prelude.{ℕ, zero, suc, ◌≡◌, Bool, true, not, ◌&&◌, ◌||◌, List, ◌++◌}
-use Rattle.std.proofs.Math.Option.{Option, none, some, map}
+use Rattle.std.specs.Prelude.{ℕ, zero, suc, ◌≡◌, Bool, true, not, ◌&&◌, ◌||◌, List, ◌++◌, None, Option, Some, option_map}
 use Rattle.names.specs.Lists.{In, keep, any, first, holds, same, begins}
 use Rattle.recipe.specs.Records.{Recipe, is_port, is_deletion, is_replacement, is_replaced_by, is_mark}
 use Rattle.recipe.specs.Definitions.{owner_of}
@@ -21,7 +20,7 @@ from path x = node (path ++ x.path) x.place
 
 -- "A target .. is that element of the submodel's instance": the target of a mark or port of the tree
 unfoldable pub aim : Recipe → Node → Option Node
-aim s r = map (from r.path) (target s r.place)
+aim s r = option_map (from r.path) (target s r.place)
 
 -- x is the target of r
 unfoldable pub aims_at : Recipe → Node → Node → Bool
@@ -51,7 +50,7 @@ replaces s x r = is_replacement s r.place && aims_at s r x
 pub data Gone (s : Recipe) : Node → Type 0 where
   removed : {x : Node} (r : Node) → In r (tree_marks s) → removes s x r ≡ true → Gone s x
   owns : {x : Node} (r : Node) → In r (tree_marks s) → owns_by s x r ≡ true → Gone s x
-  child : {x y : Node} → parent_of s x ≡ some y → Gone s y → Gone s x
+  child : {x y : Node} → parent_of s x ≡ Some y → Gone s y → Gone s x
 
 -- the same as tests, which `proofs/IsGone.antt` shows: "the target of a deletion or replacement, the owner of a replaced-by"
 unfoldable pub is_marked_gone : Recipe → Node → Bool
@@ -67,21 +66,21 @@ survivors s = keep (λ x. not (is_gone s x)) (tree_elements s)
 
 -- "if it owns a replaced-by, step to that target; otherwise it ends there"
 unfoldable pub step_down : Recipe → Node → Option Node
-step_down s x = elim (first (owns_by s x) (tree_marks s)) [ none ↦ none | some r ↦ aim s r ]
+step_down s x = elim (first (owns_by s x) (tree_marks s)) [ None ↦ None | Some r ↦ aim s r ]
 
 -- "if it is a replacement's target, step to the owner"
 unfoldable pub step : Recipe → Node → Option Node
-step s x = elim (first (replaces s x) (tree_marks s)) [ none ↦ step_down s x | some r ↦ some (owner s r) ]
+step s x = elim (first (replaces s x) (tree_marks s)) [ None ↦ step_down s x | Some r ↦ Some (owner s r) ]
 
 -- "A chain's length is the number of its steps, 0 where it ends at once": a chain of n steps leads from x to z
 pub data Chain (s : Recipe) : ℕ → Node → Node → Type 0 where
-  end : {x : Node} → step s x ≡ none → Chain s zero x x
-  then : {n : ℕ} {x y z : Node} → step s x ≡ some y → Chain s n y z → Chain s (suc n) x z
+  end : {x : Node} → step s x ≡ None → Chain s zero x x
+  then : {n : ℕ} {x y z : Node} → step s x ≡ Some y → Chain s n y z → Chain s (suc n) x z
 
 -- where the chain from x is after at most n steps
 unfoldable pub chain_within : ℕ → Recipe → Node → Node
 chain_within zero s x = x
-chain_within (suc n) s x = elim (step s x) [ none ↦ x | some y ↦ chain_within n s y ]
+chain_within (suc n) s x = elim (step s x) [ None ↦ x | Some y ↦ chain_within n s y ]
 
 -- "the element at the end of the chain" from x: a chain has at most five steps, one more than there are depths to climb
 unfoldable pub chain_end : Recipe → Node → Node

@@ -4,14 +4,14 @@
 
 ghost use Rattle.std.specs.Prelude.{◌≡◌, true, ◌*◌, ◌+◌, ◌≤◌, ◌<◌, length, get_or, replicate};
 ghost use Rattle.names.specs.Lists.{In};
-ghost use Rattle.names.specs.Scans.{found_of};
 ghost use Rattle.recipe.specs.Records.{recipe_at, places, is_pointer, next, owned_kind, replaced_by_kind};
 ghost use Rattle.marks.specs.Faults.{conflicts_with_earlier, fault₉};
 ghost use Rattle.marks.specs.Cells.{any_set, Stamped, AllStamped, MarksRequires, meets, stamped};
+ghost use Rattle.marks.specs.Pointers.{InCells, ReadAt, in_row};
 
-use names::Found;
-use shadow::{DEFINITION_OF, ELEMENT_ORDER, FIRST_INSTANCE, OWNER, TARGET_NUMBER, cell};
-use tree::{DEPTH, FIRST_ELEMENT, NEXT_SAME};
+use recipe::Records;
+use shadow::{ELEMENT_ORDER, OWNER, TARGET_NUMBER, cell};
+use tree::{DEPTH, FIRST_ELEMENT, InstancesOf};
 
 // Twelve cells for each of at most 1,024 elements.
 pub const CELLS: usize = 12288;
@@ -33,79 +33,98 @@ fn any_set(cells: &[u8], a: usize, n: usize) -> bool
     requires { a + n ≤ length cells.now }
     ensures { result ≡ any_set cells.now a n }
 {
-    let mut i = a;
-    let mut left = n;
-    while left > 0 {
-        if cells[i] != 0 {
-            return true;
+    cells[a..a + n].iter().any(|x| *x != 0)
+}
+
+// A mark or port in one instance: its kind, the numbers of its target and, if it has one, its owner, and its depth.
+#[derive(Clone, Copy)]
+struct Pointer {
+    kind: u8,
+    target: usize,
+    owner: usize,
+    depth: usize,
+}
+
+impl Pointer {
+    // The record at p, its numbers counted from the first element of its instance, whichever that is.
+    fn read(s: &[u8], t: &[u16], p: usize) -> Pointer
+        requires { (p < length s.now) × ((p + 9 < length t.now) × (owned_kind (get_or s.now p 0) ≡ true → get_or t.now (p + 3) 0 + 1 < length t.now)) }
+        ensures { ReadAt s.now t.now p result }
+    {
+        let kind = s[p];
+        Pointer {
+            kind,
+            target: cell(t, p, TARGET_NUMBER),
+            owner: owner_order(t, p, kind),
+            depth: 0,
         }
-        i += 1;
-        left -= 1;
     }
-    false
-}
 
-// A cell that a record of kind k asks is set: e is its target's number, o its owner's, d its depth.
-fn meets_any(cells: &[u8], k: u8, e: usize, o: usize, d: usize) -> bool
-    requires { (length cells.now ≡ 12 * 1024) × ((e < 1024) × ((d ≤ 4) × (replaced_by_kind k ≡ true → o < 1024))) }
-    ensures { result ≡ meets cells.now k e o d }
-{
-    if recipe::is_port(k) {
-        if any_set(cells, 12 * e, 6 - d) {
-            return true;
+    // The same in instance i.
+    fn in_instance(self, inst: &[u16], i: usize) -> Pointer
+        requires { (6 * i + 6 ≤ length inst.now) × ((self.target < 65536) × (self.owner < 65536)) }
+        ensures { result ≡ in_row self inst.now i }
+    {
+        let row = 6 * i;
+        let first = cell(inst, row, FIRST_ELEMENT);
+        Pointer {
+            kind: self.kind,
+            target: first + self.target,
+            owner: first + self.owner,
+            depth: cell(inst, row, DEPTH),
         }
-        return any_set(cells, 12 * e + (6 + d), 1);
     }
-    if !recipe::is_mark(k) {
-        return false;
+
+    // A cell that it asks is set.
+    #[tactic(auto, unfolding(crate::specs::Cells::meets, crate::specs::Cells::port_cell, crate::specs::Cells::any_set))]
+    fn meets_any(self, cells: &[u8]) -> bool
+        requires { (length cells.now ≡ 12 * 1024) × InCells self }
+        ensures { result ≡ meets cells.now self.kind self.target self.owner self.depth }
+    {
+        let e = 12 * self.target;
+        if recipe::is_port(self.kind) {
+            return any_set(cells, e, 6 - self.depth) || any_set(cells, e + (6 + self.depth), 1);
+        }
+        if !recipe::is_mark(self.kind) {
+            return false;
+        }
+        any_set(cells, e, 7 + self.depth)
+            || (recipe::is_replaced_by(self.kind) && any_set(cells, 12 * self.owner + 1, 10))
     }
-    if any_set(cells, 12 * e, 7 + d) {
-        return true;
+
+    // Sets its cells.
+    #[tactic(auto, unfolding(crate::specs::Cells::stamped, crate::specs::Cells::mark_cell, crate::specs::Cells::port_cell, crate::specs::Cells::owner_cell, crate::specs::Cells::gone_cell))]
+    fn stamp(self, cells: &mut [u8])
+        requires { (length cells.old ≡ 12 * 1024) × InCells self }
+        ensures { cells.new ≡ stamped cells.old self.kind self.target self.owner self.depth }
+    {
+        let e = 12 * self.target;
+        if recipe::is_port(self.kind) {
+            cells[e + (6 + self.depth)] = 1;
+            return;
+        }
+        if !recipe::is_mark(self.kind) {
+            return;
+        }
+        cells[e + (5 - self.depth)] = 1;
+        if recipe::is_replaced_by(self.kind) {
+            cells[12 * self.owner] = 1;
+            return;
+        }
+        cells[e + 11] = 1;
     }
-    if recipe::is_replaced_by(k) {
-        return any_set(cells, 12 * o + 1, 10);
-    }
-    false
 }
 
-// Sets the cells of a record.
-fn stamp(cells: &mut [u8], k: u8, e: usize, o: usize, d: usize)
-    requires { (length cells.old ≡ 12 * 1024) × ((e < 1024) × ((d ≤ 4) × (replaced_by_kind k ≡ true → o < 1024))) }
-    ensures { cells.new ≡ stamped cells.old k e o d }
-{
-    if recipe::is_port(k) {
-        cells[12 * e + (6 + d)] = 1;
-        return;
-    }
-    if !recipe::is_mark(k) {
-        return;
-    }
-    cells[12 * e + (5 - d)] = 1;
-    if recipe::is_replaced_by(k) {
-        cells[12 * o] = 1;
-        return;
-    }
-    cells[12 * e + 11] = 1;
-}
-
-// The record at p, a mark or port, conflicts with an earlier one. Along the instances of its definition v is one more than the number of the next, or 0 behind the last.
+// The record at p, a mark or port, conflicts with an earlier one.
 fn conflicts_at(s: &[u8], w: usize, p: usize, t: &[u16], inst: &[u16], cells: &[u8]) -> bool
     requires { MarksRequires (recipe_at w s.now) t.now inst.now × (In p (places (recipe_at w s.now)) × ((is_pointer (recipe_at w s.now) p ≡ true) × (Stamped (recipe_at w s.now) (λ q. q.place < p) cells.now × (length cells.now ≡ 12 * 1024)))) }
     ensures { result ≡ conflicts_with_earlier (recipe_at w s.now) p }
 {
-    let k = s[p];
-    let e = cell(t, p, TARGET_NUMBER);
-    let o = owner_order(t, p, k);
-    let h = cell(t, p, DEFINITION_OF);
-    let mut v = cell(t, h, FIRST_INSTANCE);
-    while v != 0 {
-        let row = 6 * (v - 1);
-        let f = cell(inst, row, FIRST_ELEMENT);
-        let d = cell(inst, row, DEPTH);
-        if meets_any(cells, k, f + e, f + o, d) {
+    let pointer = Pointer::read(s, t, p);
+    for i in InstancesOf::record(t, inst, p) {
+        if pointer.in_instance(inst, i).meets_any(cells) {
             return true;
         }
-        v = cell(inst, row, NEXT_SAME);
     }
     false
 }
@@ -115,38 +134,30 @@ fn enter_at(s: &[u8], w: usize, p: usize, t: &[u16], inst: &[u16], cells: &mut [
     requires { MarksRequires (recipe_at w s.now) t.now inst.now × (In p (places (recipe_at w s.now)) × ((is_pointer (recipe_at w s.now) p ≡ true) × (Stamped (recipe_at w s.now) (λ q. q.place < p) cells.old × (length cells.old ≡ 12 * 1024)))) }
     ensures { Stamped (recipe_at w s.now) (λ q. q.place < next (recipe_at w s.now) p) cells.new × (length cells.new ≡ 12 * 1024) }
 {
-    let k = s[p];
-    let e = cell(t, p, TARGET_NUMBER);
-    let o = owner_order(t, p, k);
-    let h = cell(t, p, DEFINITION_OF);
-    let mut v = cell(t, h, FIRST_INSTANCE);
-    while v != 0 {
-        let row = 6 * (v - 1);
-        let f = cell(inst, row, FIRST_ELEMENT);
-        let d = cell(inst, row, DEPTH);
-        stamp(cells, k, f + e, f + o, d);
-        v = cell(inst, row, NEXT_SAME);
+    let pointer = Pointer::read(s, t, p);
+    for i in InstancesOf::record(t, inst, p) {
+        pointer.in_instance(inst, i).stamp(cells);
     }
 }
 
 // Row 9: the first record that conflicts with an earlier one; where there is none, the cells that all records set.
-pub fn first_conflict(s: &[u8], w: usize, t: &[u16], inst: &[u16], cells: &mut [u8]) -> Found
+pub fn first_conflict(
+    s: &[u8],
+    w: usize,
+    t: &[u16],
+    inst: &[u16],
+    cells: &mut [u8],
+) -> Option<usize>
     requires { MarksRequires (recipe_at w s.now) t.now inst.now × (cells.old ≡ replicate (12 * 1024) 0) }
-    ensures { (result ≡ found_of (fault₉ (recipe_at w s.now))) × (result ≡ Found.Nothing → AllStamped (recipe_at w s.now) cells.new × (length cells.new ≡ 12 * 1024)) }
+    ensures { (result ≡ fault₉ (recipe_at w s.now)) × (result ≡ None → AllStamped (recipe_at w s.now) cells.new × (length cells.new ≡ 12 * 1024)) }
 {
-    let mut p = 0;
-    while p < s.len() {
-        let k = s[p];
-        let next = p + recipe::record_length(k, w);
-        if recipe::is_pointer(k) {
+    for p in Records::of(s, w) {
+        if recipe::is_pointer(s[p]) {
             if conflicts_at(s, w, p, t, inst, cells) {
-                return Found::At(p);
+                return Some(p);
             }
             enter_at(s, w, p, t, inst, cells);
-            p = next;
-        } else {
-            p = next;
         }
     }
-    Found::Nothing
+    None
 }

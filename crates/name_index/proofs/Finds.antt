@@ -1,7 +1,7 @@
 -- A name's place in an index, what stands there, and the first repeat. Assumes nothing.
+use Rattle.std.specs.Prelude.{None, Some}
 use mathlib.Core.Path.{◌≡◌, sym, ap, ◌∙◌}
 use mathlib.Core.Bool.{true, false}
-use mathlib.Core.Option.{none, some}
 use mathlib.Core.List.{List}
 use Prim.Native.Nat.{ℕ, ◌+◌, ◌-◌, ◌<◌, ◌≤◌}
 use native.Mathlib.Omega.{arith}
@@ -65,10 +65,10 @@ module _ (name : ℕ → List ℕ) (xs : List ℕ) (n : ℕ) where
         let b : before (name q) f ≡ true = rw e at (p.low k h) in
         not-both b (rw z (irreflexive f))
 
-    pub found-past : n ≤ r → Ranked name n xs → scan (λ q. same (name q) f) n ≡ none
+    pub found-past : n ≤ r → Ranked name n xs → scan (λ q. same (name q) f) n ≡ None
     found-past h rk = scan-none (λ q. same (name q) f) n (λ q l. same_false (λ z. let w = rk.has q l in low-differs w.0 q (omega (arith, w.1)) w.2 z))
 
-    pub found_at : r < n → Ranked name n xs → same (name (get_or xs r 0)) f ≡ true → scan (λ q. same (name q) f) n ≡ some (get_or xs r 0)
+    pub found_at : r < n → Ranked name n xs → same (name (get_or xs r 0)) f ≡ true → scan (λ q. same (name q) f) n ≡ Some (get_or xs r 0)
     found_at h rk e =
         scan-at (λ q. same (name q) f) n (get_or xs r 0) (rk.below r h) e
         (λ q l.
@@ -81,7 +81,7 @@ module _ (name : ℕ → List ℕ) (xs : List ℕ) (n : ℕ) where
         (λ u. let s : get_or xs w.0 0 ≡ get_or xs r 0 = ap (λ (i : ℕ). get_or xs i 0) u in omega arith)
         (λ u. let s = (rk.rising r w.0 u w.1).1 (same_true (name (get_or xs r 0)) f e ∙ (sym z ∙ sym (ap name v))) in omega arith)))
 
-    pub found_none : r < n → Ranked name n xs → same (name (get_or xs r 0)) f ≡ false → scan (λ q. same (name q) f) n ≡ none
+    pub found_none : r < n → Ranked name n xs → same (name (get_or xs r 0)) f ≡ false → scan (λ q. same (name q) f) n ≡ None
     found_none h rk e =
         scan-none (λ q. same (name q) f) n
         (λ q l.
@@ -164,12 +164,12 @@ module _ (name : ℕ → List ℕ) (xs : List ℕ) (n : ℕ) where
       let g = s.least w.0 w.1 (omega (arith, w.2)) w.4 in
       omega (arith, w.3)
 
-  pub seen_at : {k best : ℕ} → Ranked name n xs → Seen k best → n ≤ k → best < n → scan (is_repeat name) n ≡ some best
+  pub seen_at : {k best : ℕ} → Ranked name n xs → Seen k best → n ≤ k → best < n → scan (is_repeat name) n ≡ Some best
   seen_at {k} {best} r s h l =
       scan-at (is_repeat name) n best l (s.repeats l)
       (λ q u. by_cases (is_repeat name q) (λ e. absurd (let g = least-repeat r s h q (omega arith) e in omega arith)) (λ e. e))
 
-  pub seen_none : {k best : ℕ} → Ranked name n xs → Seen k best → n ≤ k → n ≤ best → scan (is_repeat name) n ≡ none
+  pub seen_none : {k best : ℕ} → Ranked name n xs → Seen k best → n ≤ k → n ≤ best → scan (is_repeat name) n ≡ None
   seen_none {k} {best} r s h l =
       scan-none (is_repeat name) n
       (λ q u. by_cases (is_repeat name q) (λ e. absurd (let g = least-repeat r s h q u e in omega arith)) (λ e. e))

@@ -1,7 +1,7 @@
 -- The index of the names of records that stand one after the other, each as long as the next: their positions, in order of
 -- their keys, then of their names, then of the positions. Assumes nothing.
-use Rattle.std.specs.Prelude.{ℕ, zero, suc, ◌+◌, ◌*◌, ◌≤◌, ◌<◌, ◌≡◌, Bool, cond, List, [], ◌∷◌, length, take, drop, get_or}
-use Rattle.names.specs.Lists.{is_some, same}
+use Rattle.std.specs.Prelude.{ℕ, zero, suc, ◌+◌, ◌*◌, ◌≤◌, ◌<◌, ◌≡◌, Bool, cond, List, [], ◌∷◌, length, take, drop, get_or, is_some}
+use Rattle.names.specs.Lists.{same}
 use Rattle.names.specs.Scans.{scan}
 use Rattle.names.specs.Order.{before}
 use Rattle.name_index.specs.declared.Layout.{Layout}

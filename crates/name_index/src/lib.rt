@@ -5,12 +5,10 @@
 ghost use Rattle.std.specs.Prelude.{◌≡◌, ◌∷◌, ◌++◌, ◌+◌, ◌-◌, ◌/◌, ◌≤◌, ◌<◌, length, take, drop, get_or};
 ghost use Rattle.names.specs.Lists.{same};
 ghost use Rattle.names.specs.Order.{before};
-ghost use Rattle.names.specs.Scans.{scan, found_of, table};
+ghost use Rattle.names.specs.Scans.{scan, table};
 ghost use Rattle.name_index.specs.Hash.{four_at, mixed, mixed_from, hash_of};
 ghost use Rattle.name_index.specs.Index.{name_of, keyed_name, Whole, Keyed, Below, Indexes, ordered, is_repeat};
 ghost use Rattle.name_index.specs.Steps.{merged, next_right, InsertionPoint};
-
-use names::Found;
 
 // Where the name stands in a record, how long a record is, and how long a name is.
 #[derive(Clone, Copy)]
@@ -289,18 +287,18 @@ pub fn find(
     index: &[u16],
     key: u32,
     name: &[u8],
-) -> Found
+) -> Option<usize>
     requires { Indexes keys.now bytes.now l n index.now }
-    ensures { result ≡ found_of (scan (λ p. same (keyed_name keys.now bytes.now l p) (key ∷ name.now)) n) }
+    ensures { result ≡ scan (λ p. same (keyed_name keys.now bytes.now l p) (key ∷ name.now)) n }
 {
     let at = place(bytes, l, n, keys, index, key, name);
     if at < n {
         let p = index[at] as usize;
         if is_at(bytes, l, keys, p, key, name) {
-            return Found::At(p);
+            return Some(p);
         }
     }
-    Found::Nothing
+    None
 }
 
 // Whether the records at positions q and p have one key and one name.
@@ -312,9 +310,9 @@ fn is_twin(bytes: &[u8], l: Layout, n: usize, keys: &[u32], q: usize, p: usize) 
 }
 
 // The first position whose key and name stand at an earlier one too.
-pub fn first_repeat(bytes: &[u8], l: Layout, n: usize, keys: &[u32], index: &[u16]) -> Found
+pub fn first_repeat(bytes: &[u8], l: Layout, n: usize, keys: &[u32], index: &[u16]) -> Option<usize>
     requires { Indexes keys.now bytes.now l n index.now }
-    ensures { result ≡ found_of (scan (is_repeat (keyed_name keys.now bytes.now l)) n) }
+    ensures { result ≡ scan (is_repeat (keyed_name keys.now bytes.now l)) n }
 {
     let mut best = n;
     let mut k = 1;
@@ -333,7 +331,7 @@ pub fn first_repeat(bytes: &[u8], l: Layout, n: usize, keys: &[u32], index: &[u1
         }
     }
     if best < n {
-        return Found::At(best);
+        return Some(best);
     }
-    Found::Nothing
+    None
 }

@@ -1,9 +1,9 @@
 -- The order of a list: what stands earlier, numbers that rise, and two lists member by member.
 -- Assumes nothing.
+use Rattle.std.specs.Prelude.{Some}
 use mathlib.Core.Path.{◌≡◌, refl, sym, ap, ◌∙◌}
 use mathlib.Core.Logic.{◌⊎◌, inl, inr, ⊎_elim}
 use mathlib.Core.Bool.{Bool, true, false}
-use mathlib.Core.Option.{some}
 use mathlib.Core.List.{List, [], ◌∷◌, ◌++◌, map}
 use Prim.Native.Nat.{ℕ, zero, suc, ◌≤◌, ◌<◌}
 use lib.ListN.{get_or, length}
@@ -154,7 +154,7 @@ last-greatest p z (q ∷ qs) a r (inl e) h =
 last-greatest p z (q ∷ qs) a r (inr i) h = last-greatest (suc q) q qs a r.1 i (λ b j. h b (inr j))
 
 -- the first of rising numbers that passes a test is the lowest
-pub first-lowest : (t : ℕ → Bool) (p : ℕ) (qs : List ℕ) (a b : ℕ) → Rising p qs → first t qs ≡ some a → In b qs → b < a → t b ≡ false
+pub first-lowest : (t : ℕ → Bool) (p : ℕ) (qs : List ℕ) (a b : ℕ) → Rising p qs → first t qs ≡ Some a → In b qs → b < a → t b ≡ false
 first-lowest t p [] a b r e i l = absurd i
 first-lowest t p (q ∷ qs) a b r e i l =
     by_cases (t q)

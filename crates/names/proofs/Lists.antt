@@ -1,8 +1,8 @@
 -- The laws of the list functions: what is in a list that they make, and what their answers say. Assumes nothing.
+use Rattle.std.specs.Prelude.{None, Some, is_some}
 use mathlib.Core.Path.{◌≡◌, refl, sym, ap, ◌∙◌}
 use mathlib.Core.Logic.{◌⊎◌, inl, inr, ⊎_elim}
 use mathlib.Core.Bool.{Bool, true, false, not, ◌||◌, or-true, false≢true, true≢false, ◌&&◌}
-use mathlib.Core.Option.{none, some}
 use mathlib.Core.List.{List, [], ◌∷◌, ◌++◌, map}
 use Prim.Native.Nat.{ℕ, zero, suc, ◌+◌, ◌*◌, ◌≤◌, ◌<◌}
 use native.Mathlib.Omega.{arith}
@@ -12,7 +12,7 @@ use lib.ListN.{length, take, drop, get_or, replicate, length-append, length-repl
 use lib.Seq.{drop_at, drop-cons, drop-drop, take_at}
 use lib.Dec.{eqb}
 use borrow.Author.Tests.{eq-eqb, ne_eqb, eqb-true}
-use Rattle.names.specs.Lists.{In, keep, keep_while, any, every, first, last_or, joined, is_some, same, begins, padded, among}
+use Rattle.names.specs.Lists.{In, keep, keep_while, any, every, first, last_or, joined, same, begins, padded, among}
 use Rattle.names.proofs.Tests.{both, by_cases, not-both, and_left, and_right, not_none, the-some}
 
 module _ {A : Type 0} where
@@ -32,7 +32,7 @@ module _ {A : Type 0} where
       by_cases (t x) (λ e. rw (e, keep) (inr (keep-in t xs a m h))) (λ e. rw (e, keep) (keep-in t xs a m h))
 
   -- no first: the test fails throughout
-  pub none_first : (t : A → Bool) (xs : List A) (a : A) → first t xs ≡ none → In a xs → t a ≡ false
+  pub none_first : (t : A → Bool) (xs : List A) (a : A) → first t xs ≡ None → In a xs → t a ≡ false
   none_first t [] a e m = absurd m
   none_first t (x ∷ xs) a e m =
       by_cases (t x)
@@ -40,7 +40,7 @@ module _ {A : Type 0} where
       (λ h. ⊎_elim (λ (p : a ≡ x). ap t p ∙ h) (λ (i : In a xs). none_first t xs a (rw (h, first) at e) i) m)
 
   -- the first is in the list and passes the test
-  pub some_first : (t : A → Bool) (xs : List A) (a : A) → first t xs ≡ some a → In a xs × (t a ≡ true)
+  pub some_first : (t : A → Bool) (xs : List A) (a : A) → first t xs ≡ Some a → In a xs × (t a ≡ true)
   some_first t [] a e = not_none e
   some_first t (x ∷ xs) a e =
       by_cases (t x)
@@ -280,15 +280,15 @@ module _ {A : Type 0} where
   any_none t [] h = refl
   any_none t (x ∷ xs) h = rw (h x (inl refl), any) (any_none t xs (λ a i. h a (inr i)))
 
-  pub first-none : (t : A → Bool) (xs : List A) → ((a : A) → In a xs → t a ≡ false) → first t xs ≡ none
+  pub first-none : (t : A → Bool) (xs : List A) → ((a : A) → In a xs → t a ≡ false) → first t xs ≡ None
   first-none t [] h = refl
   first-none t (x ∷ xs) h = rw (h x (inl refl), first) (first-none t xs (λ a i. h a (inr i)))
 
-  pub first-is : (t : A → Bool) (xs : List A) (a : A) → In a xs → t a ≡ true → ((b : A) → In b xs → t b ≡ true → b ≡ a) → first t xs ≡ some a
+  pub first-is : (t : A → Bool) (xs : List A) (a : A) → In a xs → t a ≡ true → ((b : A) → In b xs → t b ≡ true → b ≡ a) → first t xs ≡ Some a
   first-is t [] a i e h = absurd i
   first-is t (x ∷ xs) a i e h =
       by_cases (t x)
-      (λ k. rw (k, first) (ap some (h x (inl refl) k)))
+      (λ k. rw (k, first) (ap Some (h x (inl refl) k)))
       (λ k. rw (k, first)
       (first-is t xs a (⊎_elim (λ (p : a ≡ x). not-both (sym (ap t p) ∙ e) k) (λ (j : In a xs). j) i) e (λ b j l. h b (inr j) l)))
 

@@ -1,19 +1,17 @@
--- What a scan gives, a loop that scans, and the code's answer for it. Assumes nothing.
+-- What a scan gives, and a loop that scans. Assumes nothing.
+use Rattle.std.specs.Prelude.{None, Option, Some, is_some}
 use mathlib.Core.Path.{◌≡◌, refl, ap, ◌∙◌}
 use mathlib.Core.Bool.{Bool, true, false, cond, false≢true}
-use mathlib.Core.Option.{Option, none, some}
 use Prim.Native.Nat.{ℕ, zero, suc, ◌+◌, ◌-◌, ◌<◌, ◌≤◌}
 use native.Mathlib.Omega.{arith}
 use native.Mathlib.Nat.{sub-zero}
 use lib.Dec.{eqb}
 use borrow.Author.Tests.{eqb-true, eqb-false}
-use Rattle.names.specs.Lists.{is_some}
-use Rattle.names.specs.Scans.{first_from, scan, found_of}
-use Rattle.names.specs.declared.Found.TheVariants.{At, Nothing}
+use Rattle.names.specs.Scans.{first_from, scan}
 use Rattle.names.proofs.Tests.{by_cases, apart, not_none, the-some}
 
 -- ---- what a scan gives
-first-at : (t : ℕ → Bool) (p n x : ℕ) → p ≤ x → x < p + n → t x ≡ true → ((q : ℕ) → p ≤ q → q < x → t q ≡ false) → first_from t p n ≡ some x
+first-at : (t : ℕ → Bool) (p n x : ℕ) → p ≤ x → x < p + n → t x ≡ true → ((q : ℕ) → p ≤ q → q < x → t q ≡ false) → first_from t p n ≡ Some x
 unfolding first_from
 first-at t p zero x h l e f = absurd (omega arith)
 first-at t p (suc n) x h l e f =
@@ -21,7 +19,7 @@ first-at t p (suc n) x h l e f =
     (λ k. rw (eqb-true p x k, e))
     (λ k. let g : p < x = apart h (eqb-false p x k) in rw (f p (omega arith) g) (first-at t (suc p) n x g (omega arith) e (λ q u v. f q (omega arith) v)))
 
-first-none : (t : ℕ → Bool) (p n : ℕ) → ((q : ℕ) → p ≤ q → q < p + n → t q ≡ false) → first_from t p n ≡ none
+first-none : (t : ℕ → Bool) (p n : ℕ) → ((q : ℕ) → p ≤ q → q < p + n → t q ≡ false) → first_from t p n ≡ None
 unfolding first_from
 first-none t p zero f = refl
 first-none t p (suc n) f = rw (f p (omega arith) (omega arith)) (first-none t (suc p) n (λ q u v. f q (omega arith) (omega arith)))
@@ -43,11 +41,11 @@ some_first t p (suc n) q h l e =
     (λ k. by_cases (t p) (λ u. rw u) (λ u. rw u (some_first t (suc p) n q (apart h (eqb-false p q k)) (omega arith) e)))
 
 module _ (t : ℕ → Bool) (n : ℕ) where
-  pub scan-at : (x : ℕ) → x < n → t x ≡ true → ((q : ℕ) → q < x → t q ≡ false) → scan t n ≡ some x
+  pub scan-at : (x : ℕ) → x < n → t x ≡ true → ((q : ℕ) → q < x → t q ≡ false) → scan t n ≡ Some x
   unfolding scan
   scan-at x h e f = first-at t 0 n x (omega arith) (omega arith) e (λ q u v. f q v)
 
-  pub scan-none : ((q : ℕ) → q < n → t q ≡ false) → scan t n ≡ none
+  pub scan-none : ((q : ℕ) → q < n → t q ≡ false) → scan t n ≡ None
   unfolding scan
   scan-none f = first-none t 0 n (λ q u v. f q (omega arith))
 
@@ -64,7 +62,7 @@ pub scan-start : (t : ℕ → Bool) (n : ℕ) → scan t n ≡ first_from t 0 (n
 unfolding scan
 scan-start t n = rw (sub-zero n)
 
-from_suc : (t : ℕ → Bool) (i n : ℕ) → i < n → first_from t i (n - i) ≡ cond (t i) (some i) (first_from t (i + 1) (n - (i + 1)))
+from_suc : (t : ℕ → Bool) (i n : ℕ) → i < n → first_from t i (n - i) ≡ cond (t i) (Some i) (first_from t (i + 1) (n - (i + 1)))
 unfolding first_from
 from_suc t i n h =
     let e : n - i ≡ suc (n - (i + 1)) = omega arith in
@@ -74,15 +72,15 @@ from_suc t i n h =
 pub scan-more : (t : ℕ → Bool) (i n : ℕ) → i < n → t i ≡ false → first_from t i (n - i) ≡ first_from t (i + 1) (n - (i + 1))
 scan-more t i n h e = from_suc t i n h ∙ rw e
 
-pub scan-hit : (t : ℕ → Bool) (i n : ℕ) → i < n → t i ≡ true → first_from t i (n - i) ≡ some i
+pub scan-hit : (t : ℕ → Bool) (i n : ℕ) → i < n → t i ≡ true → first_from t i (n - i) ≡ Some i
 scan-hit t i n h e = from_suc t i n h ∙ rw e
 
-pub scan-over : (t : ℕ → Bool) (i n : ℕ) → n ≤ i → first_from t i (n - i) ≡ none
+pub scan-over : (t : ℕ → Bool) (i n : ℕ) → n ≤ i → first_from t i (n - i) ≡ None
 unfolding first_from
 scan-over t i n h = let e : n - i ≡ 0 = omega arith in rw e
 
 -- ---- a position that a scan gives is below n, and a scan looks at nothing else
-first_below_lem : (t : ℕ → Bool) (p n x : ℕ) → first_from t p n ≡ some x → x < p + n
+first_below_lem : (t : ℕ → Bool) (p n x : ℕ) → first_from t p n ≡ Some x → x < p + n
 unfolding first_from
 first_below_lem t p zero x e = not_none e
 first_below_lem t p (suc n) x e =
@@ -90,7 +88,7 @@ first_below_lem t p (suc n) x e =
     (λ h. let z : p ≡ x = the-some (rw h at e) in omega arith)
     (λ h. let k = first_below_lem t (suc p) n x (rw h at e) in omega arith)
 
-pub scan-below : (t : ℕ → Bool) (n x : ℕ) → scan t n ≡ some x → x < n
+pub scan-below : (t : ℕ → Bool) (n x : ℕ) → scan t n ≡ Some x → x < n
 unfolding scan
 scan-below t n x e = let k = first_below_lem t 0 n x e in omega arith
 
@@ -102,31 +100,3 @@ first-same t u p (suc n) f = rw (f p (omega arith), first-same t u (suc p) n (λ
 pub scan-same : (t u : ℕ → Bool) (n : ℕ) → ((q : ℕ) → q < n → t q ≡ u q) → scan t n ≡ scan u n
 unfolding scan
 scan-same t u n f = first-same t u 0 n (λ q h. f q (omega arith))
-
--- ---- an answer of the code, and the option that it stands for
-pub at-found : {p : ℕ} {o : Option ℕ} → o ≡ some p → At p ≡ found_of o
-unfolding found_of
-at-found {p} {o} e = rw e
-
-pub not-nothing : {X : Type 0} {p : ℕ} → At p ≡ Nothing → X
-not-nothing e = let y : ◌≡◌ {A = ℕ} 0 1 = cc in absurd (omega arith)
-
-pub nothing-found : {o : Option ℕ} → o ≡ none → Nothing ≡ found_of o
-unfolding found_of
-nothing-found {o} e = rw e
-
-some_of : (p : ℕ) (o : Option ℕ) → At p ≡ found_of o → o ≡ some p
-unfolding found_of
-some_of p none e = let z : ◌≡◌ {A = ℕ} 0 1 = cc in absurd (omega arith)
-some_of p (some q) e = let z : q ≡ p = cc in ap some z
-
-none_of : (o : Option ℕ) → Nothing ≡ found_of o → o ≡ none
-unfolding found_of
-none_of none e = refl
-none_of (some q) e = let z : ◌≡◌ {A = ℕ} 0 1 = cc in absurd (omega arith)
-
-pub found_some : {p : ℕ} {o : Option ℕ} → At p ≡ found_of o → o ≡ some p
-found_some {p} {o} e = some_of p o e
-
-pub found_nothing : {o : Option ℕ} → Nothing ≡ found_of o → o ≡ none
-found_nothing {o} e = none_of o e

@@ -1,13 +1,12 @@
 -- Tests and what they tell: Bools by cases, options by cases, and how two numbers can lie. Assumes nothing.
+use Rattle.std.specs.Prelude.{None, Option, Some, is_some, option_map}
 use mathlib.Core.Path.{◌≡◌, refl, sym, ◌∙◌}
 use mathlib.Core.Logic.{◌⊎◌, inl, inr}
 use mathlib.Core.Bool.{Bool, true, false, ◌&&◌, ◌||◌, false≢true, true≢false}
-use mathlib.Core.Option.{Option, none, some, map}
 use Prim.Native.Nat.{ℕ, ◌<◌, ◌≤◌}
 use native.Mathlib.Omega.{arith}
 use lib.Dec.{ltb, eqb}
 use borrow.Author.Tests.{eqb-true, eqb-false, ltb-true, ltb-false}
-use Rattle.names.specs.Lists.{is_some}
 
 -- ---- Bools
 pub by_cases : {X : Type 0} (b : Bool) → (b ≡ true → X) → (b ≡ false → X) → X
@@ -54,27 +53,30 @@ or-none-right true b e = absurd (true≢false e)
 or-none-right false b e = e
 
 -- ---- options
-pub by-option : {A X : Type 0} (o : Option A) → (o ≡ none → X) → ((a : A) → o ≡ some a → X) → X
-by-option none f g = f refl
-by-option (some a) f g = g a refl
+pub by-option : {A X : Type 0} (o : Option A) → (o ≡ None → X) → ((a : A) → o ≡ Some a → X) → X
+by-option None f g = f refl
+by-option (Some a) f g = g a refl
 
-pub not_none : {A X : Type 0} {a : A} → ◌≡◌ {A = Option A} none (some a) → X
+pub not_none : {A X : Type 0} {a : A} → ◌≡◌ {A = Option A} None (Some a) → X
 not_none p = absurd (let z : ◌≡◌ {A = ℕ} 0 1 = cc in omega arith)
 
-pub the-some : {A : Type 0} {a b : A} → some a ≡ some b → a ≡ b
+pub some-none : {A X : Type 0} {a : A} → ◌≡◌ {A = Option A} (Some a) None → X
+some-none p = not_none (sym p)
+
+pub the-some : {A : Type 0} {a b : A} → Some a ≡ Some b → a ≡ b
 the-some p = cc
 
-pub some-map : {A B : Type 0} (f : A → B) (o : Option A) (b : B) → map f o ≡ some b → (a : A) × (o ≡ some a) × (b ≡ f a)
-some-map f none b e = not_none e
-some-map f (some a) b e = (a, refl, sym (the-some e))
+pub some-map : {A B : Type 0} (f : A → B) (o : Option A) (b : B) → option_map f o ≡ Some b → (a : A) × (o ≡ Some a) × (b ≡ f a)
+some-map f None b e = not_none e
+some-map f (Some a) b e = (a, refl, sym (the-some e))
 
-pub is_some-map : {A B : Type 0} (f : A → B) (o : Option A) → is_some (map f o) ≡ is_some o
-is_some-map f none = refl
-is_some-map f (some a) = refl
+pub is_some-map : {A B : Type 0} (f : A → B) (o : Option A) → is_some (option_map f o) ≡ is_some o
+is_some-map f None = refl
+is_some-map f (Some a) = refl
 
-pub is-some : {A : Type 0} (o : Option A) → is_some o ≡ true → (a : A) × (o ≡ some a)
-is-some none e = absurd (false≢true e)
-is-some (some a) e = (a, refl)
+pub is-some : {A : Type 0} (o : Option A) → is_some o ≡ true → (a : A) × (o ≡ Some a)
+is-some None e = absurd (false≢true e)
+is-some (Some a) e = (a, refl)
 
 -- ---- numbers
 pub apart : {p q : ℕ} → p ≤ q → (p ≡ q → ⊥) → p < q

@@ -1,6 +1,5 @@
 -- Lists, by tests that compute: the functions that all definitions are written with. Assumes nothing.
-use Rattle.std.specs.Prelude.{ℕ, ◌-◌, ◌≡◌, ◌⊎◌, Bool, true, false, ◌&&◌, List, [], ◌∷◌, ◌++◌, length, replicate, eqb}
-use Rattle.std.proofs.Math.Option.{Option, none, some}
+use Rattle.std.specs.Prelude.{ℕ, ◌-◌, ◌≡◌, ◌⊎◌, Bool, true, false, ◌&&◌, List, [], ◌∷◌, ◌++◌, length, replicate, eqb, None, Option, Some}
 
 module _ {A : Type 0} where
   -- a is in the list
@@ -30,8 +29,8 @@ module _ {A : Type 0} where
 
   -- the first that passes the test; of places in rising order, the lowest
   abbrev pub first : (A → Bool) → List A → Option A
-  first t [] = none
-  first t (x ∷ xs) = elim (t x) [ true ↦ some x | false ↦ first t xs ]
+  first t [] = None
+  first t (x ∷ xs) = elim (t x) [ true ↦ Some x | false ↦ first t xs ]
 
   -- the last, or d of the empty list
   abbrev pub last_or : A → List A → A
@@ -43,15 +42,10 @@ module _ {A : Type 0} where
   joined [] = []
   joined (l ∷ ls) = l ++ joined ls
 
-  -- a value is there
-  abbrev pub is_some : Option A → Bool
-  is_some none = false
-  is_some (some x) = true
-
   -- a value is there, and passes the test
   abbrev pub holds : (A → Bool) → Option A → Bool
-  holds t none = false
-  holds t (some x) = t x
+  holds t None = false
+  holds t (Some x) = t x
 
 module _ {A : Type 0} (R : ℕ → A → Type 0) where
   -- the members at each position of both are so related

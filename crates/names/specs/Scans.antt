@@ -1,22 +1,14 @@
--- The numbers below n: what a scan of them gives, with the code's answer for it, and a table of what each has. Assumes nothing.
-use Rattle.std.specs.Prelude.{ℕ, zero, suc, Bool, cond, List, [], ◌∷◌}
-use Rattle.std.proofs.Math.Option.{Option, none, some}
-use Rattle.names.specs.declared.Found.{Found}
-use Rattle.names.specs.declared.Found.TheVariants.{At, Nothing}
+-- The numbers below n: what a scan of them gives, and a table of what each has. Assumes nothing.
+use Rattle.std.specs.Prelude.{ℕ, zero, suc, Bool, cond, List, [], ◌∷◌, None, Option, Some}
 
 -- the first of the n numbers from p on that passes the test
 unfoldable pub first_from : (ℕ → Bool) → ℕ → ℕ → Option ℕ
-first_from t p zero = none
-first_from t p (suc n) = let rest = first_from t (suc p) n in cond (t p) (some p) rest
+first_from t p zero = None
+first_from t p (suc n) = let rest = first_from t (suc p) n in cond (t p) (Some p) rest
 
 -- the first of the numbers below n that passes the test
 unfoldable pub scan : (ℕ → Bool) → ℕ → Option ℕ
 scan t n = first_from t 0 n
-
--- the code's answer for an option
-unfoldable pub found_of : Option ℕ → Found
-found_of none = Nothing
-found_of (some p) = At p
 
 -- what f gives for the n numbers from p on, in order
 unfoldable pub table_from : (ℕ → ℕ) → ℕ → ℕ → List ℕ

@@ -1,27 +1,46 @@
 // Name fields of any width: a name and zeros behind it, or zeros alone. They are read, compared, copied and cut here, and nowhere else.
-// Public calls: read_field, is_name, is_optional, is_blank, is_same, comes_before, unpadded, refuse. None of them requires anything. For the floors above: field_at, put_bytes.
+// Public calls: read_field, is_name, is_optional, is_blank, is_same, comes_before, unpadded, Reason::number, judge. None of them requires anything. For the floors above: field_at, put_bytes.
 #![tactic(auto)]
 
-ghost use Rattle.std.specs.Prelude.{◌≡◌, ◌+◌, ◌≤◌, length, take, drop};
+ghost use Rattle.std.specs.Prelude.{◌≡◌, [], ◌∷◌, ◌+◌, ◌≤◌, length, take, drop};
+ghost use Rattle.std.specs.Result.{result_err};
 ghost use Rattle.std.proofs.lemmas.List.Edits.{sets};
 ghost use Rattle.names.specs.Lists.{same, keep_while};
 ghost use Rattle.names.specs.Names.{is_first, is_other, is_blank, is_name, is_name_or_blank, text, field_of, field_at};
 ghost use Rattle.names.specs.Order.{before};
-ghost use Rattle.names.specs.Judging.{refusal_at};
+ghost use Rattle.names.specs.Judging.{row_number, row, judged};
 ghost use Rattle.names.specs.Runs.{other_at, same_at, eight, Passed, Run};
 
-// What a search answers: the position, or nothing.
+// Why a recipe, a table or a name is refused: the rows of 01's "Verdicts", and of 02's papers.
 #[derive(Clone, Copy)]
-pub enum Found {
-    At(usize),
-    Nothing,
+pub enum Reason {
+    BadLength,
+    Unreadable,
+    Unformed,
+    Repeated,
+    Undeclared,
+    Cyclic,
+    TooLarge,
+    Untargeted,
+    Conflicting,
+    Misclassed,
+    Lost,
+    Misreferred,
+    NoRoom,
+    BadTableLength,
+    Malformed,
+    Duplicate,
+    Unlinked,
+    Unnamed,
+    Misscaled,
+    Misfactored,
 }
 
-// What judging answers: the number and place of the first row that applies, or 0 and 0.
+// What a judge answers where a row applies: the row, and the place.
 #[derive(Clone, Copy)]
 pub struct Refusal {
-    pub number: u64,
-    pub place: u64,
+    pub reason: Reason,
+    pub place: usize,
 }
 
 // What a field reads as: a name of that length, a blank, or neither.
@@ -243,13 +262,43 @@ pub fn unpadded(f: &[u8]) -> &[u8]
     f
 }
 
-// The refusal by row `number` at `place`.
-pub fn refuse(number: u64, place: usize) -> Refusal
-    ensures { result ≡ refusal_at number place }
+impl Reason {
+    // The number of the row.
+    pub fn number(self) -> u64
+        ensures { result ≡ row_number self }
+    {
+        match self {
+            Reason::BadLength => 1,
+            Reason::Unreadable => 2,
+            Reason::Unformed => 3,
+            Reason::Repeated => 4,
+            Reason::Undeclared => 5,
+            Reason::Cyclic => 6,
+            Reason::TooLarge => 7,
+            Reason::Untargeted => 8,
+            Reason::Conflicting => 9,
+            Reason::Misclassed => 10,
+            Reason::Lost => 11,
+            Reason::Misreferred => 12,
+            Reason::NoRoom => 13,
+            Reason::BadTableLength => 14,
+            Reason::Malformed => 15,
+            Reason::Duplicate => 16,
+            Reason::Unlinked => 17,
+            Reason::Unnamed => 18,
+            Reason::Misscaled => 19,
+            Reason::Misfactored => 20,
+        }
+    }
+}
+
+// A row judged: the refusal, where there is a place at which it applies.
+pub fn judge(reason: Reason, fault: Option<usize>) -> Result<(), Refusal>
+    ensures { result_err result ≡ judged (row reason fault ∷ []) }
 {
-    Refusal {
-        number: number,
-        place: place as u64,
+    match fault {
+        Some(place) => Err(Refusal { reason, place }),
+        None => Ok(()),
     }
 }
 

@@ -1,19 +1,17 @@
 -- The answer as it is found: by composing, then by the search; and a name of another length belongs to no survivor.
 -- Assumes nothing.
+use Rattle.std.specs.Prelude.{None, Some, option_map}
 use mathlib.Core.Path.{◌≡◌, sym, ap, ◌∙◌}
 use Prim.Native.Nat.{ℕ, ◌≤◌, ◌<◌}
 use native.Mathlib.Omega.{arith}
 use mathlib.Core.Bool.{true}
-use mathlib.Core.Option.{none, some, map}
 use mathlib.Core.List.{List}
 use lib.ListN.{length}
-use Rattle.names.specs.declared.Found.TheVariants.{At, Nothing}
-use Rattle.names.specs.Judging.{handed, judged, refusal_at}
+use Rattle.names.specs.declared.Refusal.{Refusal}
+use Rattle.names.specs.Judging.{row_number}
 use Rattle.names.specs.Lists.{In}
-use Rattle.names.specs.Scans.{found_of}
-use Rattle.names.proofs.Judging.{handed-some, none-judged}
+use Rattle.names.proofs.Judging.{none-judged}
 use Rattle.names.proofs.Lists.{first-none, same_false, some_first}
-use Rattle.names.proofs.Scans.{found_nothing, found_some}
 use Rattle.names.proofs.Tests.{by-option, not_none, some-map}
 use Rattle.flat_table.specs.Table.{flat_width}
 use Rattle.recipe.specs.Records.{Recipe}
@@ -34,21 +32,21 @@ use Rattle.origins.specs.Search.{PrefixFits, OriginRequires, SearchRequires}
 
 module _ (s : Recipe) (f : List ℕ) where
   -- the origin of a name is a survivor, and has that name
-  pub origin-is : (x : Node) → origin_of s f ≡ some x → In x (survivors s) × (is_named s f x ≡ true)
+  pub origin-is : (x : Node) → origin_of s f ≡ Some x → In x (survivors s) × (is_named s f x ≡ true)
   unfolding origin_of
   origin-is x e = some_first (is_named s f) (survivors s) x e
 
   -- ---- the recipe's refusal
-  pub walk_refused_lem : (n p : ℕ) → refusal_at n p ≡ handed (judged (refusal_rows s)) → (n ≡ 0 → ⊥) → walk_refused n p ≡ walk_back s f
-  unfolding walk_back refusal_of
-  walk_refused_lem n p e z = rw (handed-some (judged (refusal_rows s)) e z, walk_back)
+  pub walk_refused_lem : (r : Refusal) → Some r ≡ refusal_of s → walk_refused (row_number r.reason) r.place ≡ walk_back s f
+  unfolding walk_back
+  walk_refused_lem r e = rw (← e, walk_back)
 
   -- ---- or the search
   pub walk-unrefused : Unrefused s → walk_back s f ≡ walk_answer (origin_of s f)
   unfolding walk_back refusal_of
   walk-unrefused h = rw (none-judged (refusal_rows s) h, walk_back)
 
-  pub walk-nowhere : origin_of s f ≡ none → walk_refused 18 0 ≡ walk_answer (origin_of s f)
+  pub walk-nowhere : origin_of s f ≡ None → walk_refused 18 0 ≡ walk_answer (origin_of s f)
   unfolding walk_answer
   walk-nowhere e = rw e
 
@@ -63,21 +61,21 @@ module _ {s : Recipe} {t inst el : List ℕ} {insts elems : ℕ} (C : Composed s
       let L = C.targeted.planted.measured.linked in
       walk-nowhere s f
       (first-none (is_named s f) (survivors s)
-      (λ x i. same_false {xs = flat_field s (some x)} {ys = f} (λ same. n (sym (ap length same) ∙ name-field s two L.row₃ C.targeted.planted.row₇ L.row₅ x (survivor s x i).0 ∙ sym e))))
+      (λ x i. same_false {xs = flat_field s (Some x)} {ys = f} (λ same. n (sym (ap length same) ∙ name-field s two L.row₃ C.targeted.planted.row₇ L.row₅ x (survivor s x i).0 ∙ sym e))))
 
   pub search-requires : {f fit : List ℕ} {w : ℕ} → w ≡ flat_width s.width → length f ≡ w → PrefixFits s f fit → SearchRequires s el f fit
   search-requires e l h = record { naming = naming C.targeted.planted; rows = C.elements; gones = C.gones; long = l ∙ e; fits = h }
 
   -- the search finds nothing
-  pub no_origin : (f : List ℕ) → Nothing ≡ found_of (map (number s) (origin_of s f)) → walk_refused 18 0 ≡ walk_answer (origin_of s f)
+  pub no_origin : (f : List ℕ) → None ≡ option_map (number s) (origin_of s f) → walk_refused 18 0 ≡ walk_answer (origin_of s f)
   no_origin f h =
       walk-nowhere s f
-      (by-option (origin_of s f) (λ e. e) (λ x e. not_none (sym (found_nothing h) ∙ ap (map (number s)) e)))
+      (by-option (origin_of s f) (λ e. e) (λ x e. not_none (sym (sym h) ∙ ap (option_map (number s)) e)))
 
   -- or the number of the origin
-  module _ (f : List ℕ) {e : ℕ} (h : At e ≡ found_of (map (number s) (origin_of s f))) where
-    origin : (x : Node) × (origin_of s f ≡ some x) × (e ≡ number s x)
-    origin = some-map (number s) (origin_of s f) e (found_some h)
+  module _ (f : List ℕ) {e : ℕ} (h : Some e ≡ option_map (number s) (origin_of s f)) where
+    origin : (x : Node) × (origin_of s f ≡ Some x) × (e ≡ number s x)
+    origin = some-map (number s) (origin_of s f) e (sym h)
 
     origin-tree : In origin.0 (tree_elements s)
     origin-tree = (survivor s origin.0 (origin-is s f origin.0 origin.1).0).0

@@ -1,20 +1,17 @@
 -- The search among the elements: a flat name's field is the prefixes of the instance, then the element's name with zeros behind it; the first survivor that has it.
 -- Assumes nothing.
+use Rattle.std.specs.Prelude.{None, Some, option_map}
 use mathlib.Core.Path.{◌≡◌, refl, sym, ap, ◌∙◌}
 use Prim.Native.Nat.{ℕ, ◌+◌, ◌*◌, ◌-◌, ◌≤◌, ◌<◌}
 use native.Mathlib.Omega.{arith}
 use native.Mathlib.Numerals.{add-one}
 use mathlib.Core.Bool.{Bool, true, false, not, ◌&&◌}
-use mathlib.Core.Option.{none, some, map}
 use mathlib.Core.List.{List, [], ◌∷◌, ◌++◌, append_assoc}
 use lib.ListN.{length, get_or, take, drop, drop_of_length-le, replicate, length-append, length-drop, replicate-append-replicate}
 use lib.Seq.{drop-cons, drop-drop, take_all}
-use Rattle.names.specs.declared.Found.TheVariants.{At, Nothing}
 use Rattle.names.specs.Lists.{In, begins, first, padded, same}
 use Rattle.names.specs.Names.{field_at, is_blank}
-use Rattle.names.specs.Scans.{found_of}
 use Rattle.names.proofs.Lists.{begins-same, first-keep, padded-length, same-split, same-zeros}
-use Rattle.names.proofs.Scans.{at-found, nothing-found}
 use Rattle.flat_table.specs.Table.{flat_width}
 use Rattle.recipe.specs.Records.{Recipe, name}
 use Rattle.recipe.proofs.Definitions.{name-short}
@@ -127,7 +124,7 @@ module _ {s : Recipe} {el f fits : List ℕ} (R : SearchRequires s el f fits) {e
       pub unfit-origin : z ≡ 0 → false ≡ is_origin s f x
       unfit-origin h = sym (alive ∙ named ∙ rw (fit_none s f i fit_is h))
 
-      module _ (some : z ≡ 0 → ⊥) {q : ℕ} (q-is : q ≡ get_or el (5 * e + 0) 0) where
+      module _ (Some : z ≡ 0 → ⊥) {q : ℕ} (q-is : q ≡ get_or el (5 * e + 0) 0) where
         place_is : q ≡ x.place
         place_is = record_is R.naming.small R.rows e low q-is
 
@@ -137,11 +134,11 @@ module _ {s : Recipe} {el f fits : List ℕ} (R : SearchRequires s el f fits) {e
           long = R.long;
           definition = definition_at s x.path;
           element = rw place_is (in_tree s x x-tree).1;
-          short = rw (fit-some s f i fit_is some).1 (prefixes-short s R.naming i inst-low);
+          short = rw (fit-some s f i fit_is Some).1 (prefixes-short s R.naming i inst-low);
         }
 
         pub fit-origin : {r : Bool} → r ≡ ends_with s f q (z - 1) → r ≡ is_origin s f x
-        fit-origin h = let a = fit-some s f i fit_is some in h ∙ sym (alive ∙ named ∙ rw (a.0, ← a.1, ← place_is))
+        fit-origin h = let a = fit-some s f i fit_is Some in h ∙ sym (alive ∙ named ∙ rw (a.0, ← a.1, ← place_is))
 
 -- ---- the first
 module _ (s : Recipe) (f : List ℕ) where
@@ -155,11 +152,11 @@ module _ (s : Recipe) (f : List ℕ) where
   find-start elems = record { within = omega arith; rest = first-keep (is_named s f) (λ x. not (is_gone s x)) (tree_elements s) }
 
   module _ {elems e : ℕ} (g : FindLoop elems e) (count : elems ≡ length (tree_elements s)) where
-    pub find-end : elems ≤ e → Nothing ≡ found_of (map (number s) (origin_of s f))
+    pub find-end : elems ≤ e → None ≡ option_map (number s) (origin_of s f)
     find-end h =
         let over : length (tree_elements s) ≤ e = omega (arith, count) in
-        let o : origin_of s f ≡ none = g.rest ∙ rw (drop_of_length-le (tree_elements s) over) in
-        nothing-found (ap (map (number s)) o)
+        let o : origin_of s f ≡ None = g.rest ∙ rw (drop_of_length-le (tree_elements s) over) in
+        sym (ap (option_map (number s)) o)
 
     module _ (low : e < elems) where
       inside : e < length (tree_elements s)
@@ -172,7 +169,7 @@ module _ (s : Recipe) (f : List ℕ) where
       pub find-more : is_origin s f (element_at s e) ≡ false → FindLoop elems (e + 1)
       find-more t = record { within = omega arith; rest = g.rest ∙ ap (first (is_origin s f)) here ∙ rw (t, first) }
 
-      pub find-hit : fault₇ s ≡ none → is_origin s f (element_at s e) ≡ true → At e ≡ found_of (map (number s) (origin_of s f))
+      pub find-hit : fault₇ s ≡ None → is_origin s f (element_at s e) ≡ true → Some e ≡ option_map (number s) (origin_of s f)
       find-hit h₇ t =
-          let o : origin_of s f ≡ some (element_at s e) = g.rest ∙ ap (first (is_origin s f)) here ∙ rw (t, first) in
-          at-found (ap (map (number s)) o ∙ ap some (element-number s h₇ e inside))
+          let o : origin_of s f ≡ Some (element_at s e) = g.rest ∙ ap (first (is_origin s f)) here ∙ rw (t, first) in
+          sym (ap (option_map (number s)) o ∙ ap Some (element-number s h₇ e inside))

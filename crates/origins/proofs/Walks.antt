@@ -1,15 +1,14 @@
 -- The walk back of a name that a survivor has, and of each survivor's own name.
 -- Assumes nothing.
+use Rattle.std.specs.Prelude.{None, Some}
 use mathlib.Core.Path.{◌≡◌, refl, sym, ap, ◌∙◌}
 use Prim.Native.Nat.{ℕ, ◌-◌, ◌≤◌}
 use native.Mathlib.Omega.{arith}
-use mathlib.Core.Option.{none, some}
 use mathlib.Core.List.{List}
 use lib.ListN.{length, replicate}
 use lib.Seq.{take-append_seam, drop-append_seam}
-use Rattle.names.specs.Judging.{are_refusals}
 use Rattle.names.specs.Lists.{In, padded}
-use Rattle.names.proofs.Judging.{judged-none, refusal-number, row-none}
+use Rattle.names.proofs.Judging.{judged-none, number-positive, row-none}
 use Rattle.names.proofs.Lists.{first-is, same_refl, same_true}
 use Rattle.names.proofs.Tests.{by-option}
 use Rattle.recipe.specs.Records.{Recipe}
@@ -34,14 +33,14 @@ module _ (s : Recipe) (f : List ℕ) (o : Origin) (walks : o ≡ walk_back s f) 
 
   -- a name is walked back only in a recipe that no row refuses,
   pub walked-unrefused : Unrefused s
-  unfolding refusal_of are_refusals walk_back walk_refused
+  unfolding refusal_of walk_back walk_refused
   walked-unrefused =
       by-option (refusal_of s)
       (judged-none (refusal_rows s))
-      (λ r e. absurd (omega (arith, refusal-number (refusal_rows s) refl r e, rw (e, walk_back) at number_is)))
+      (λ r e. absurd (omega (arith, number-positive r.reason, rw (e, walk_back) at number_is)))
 
   -- and only to its origin
-  pub walked-origin : (x : Node) × (origin_of s f ≡ some x) × (o ≡ walked_to x)
+  pub walked-origin : (x : Node) × (origin_of s f ≡ Some x) × (o ≡ walked_to x)
   unfolding walk_answer walk_refused
   walked-origin =
       by-option (origin_of s f)
@@ -49,16 +48,16 @@ module _ (s : Recipe) (f : List ℕ) (o : Origin) (walks : o ≡ walk_back s f) 
       (λ x e. (x, e, walks ∙ walk-unrefused s f walked-unrefused ∙ rw e))
 
 module _ (s : Recipe) (two : 2 ≤ s.width) (h : Unrefused s) where
-  r₃ : fault₃ s ≡ none
+  r₃ : fault₃ s ≡ None
   r₃ = row-none 3 (refusal_rows s) h
 
-  r₄ : fault₄ s ≡ none
+  r₄ : fault₄ s ≡ None
   r₄ = row-none 4 (refusal_rows s) h
 
-  r₅ : fault₅ s ≡ none
+  r₅ : fault₅ s ≡ None
   r₅ = row-none 5 (refusal_rows s) h
 
-  r₇ : fault₇ s ≡ none
+  r₇ : fault₇ s ≡ None
   r₇ = row-none 7 (refusal_rows s) h
 
   -- an element is in an instance of the tree, and its origin spells it
@@ -79,17 +78,17 @@ module _ (s : Recipe) (two : 2 ≤ s.width) (h : Unrefused s) where
       }
 
   -- the record of the name's origin is the one of that name
-  pub origin-named : (f : List ℕ) (x : Node) → origin_of s f ≡ some x → NamesOne s f x
+  pub origin-named : (f : List ℕ) (x : Node) → origin_of s f ≡ Some x → NamesOne s f x
   unfolding is_named
   origin-named f x e =
       let i = origin-is s f x e in
-      names-one s two r₃ r₅ r₇ r₄ x i.0 f (sym (same_true (flat_field s (some x)) f i.1))
+      names-one s two r₃ r₅ r₇ r₄ x i.0 f (sym (same_true (flat_field s (Some x)) f i.1))
 
   -- a survivor is walked back from its own name
-  pub own_origin : (x : Node) → In x (survivors s) → walk_back s (flat_field s (some x)) ≡ walked_to x
+  pub own_origin : (x : Node) → In x (survivors s) → walk_back s (flat_field s (Some x)) ≡ walked_to x
   unfolding origin_of is_named walk_answer
   own_origin x i =
-      let f = flat_field s (some x) in
-      let o : origin_of s f ≡ some x =
-      first-is (is_named s f) (survivors s) x i (same_refl f) (λ y j e. same-survivor s two r₃ r₅ r₇ r₄ y x j i (same_true (flat_field s (some y)) f e)) in
+      let f = flat_field s (Some x) in
+      let o : origin_of s f ≡ Some x =
+      first-is (is_named s f) (survivors s) x i (same_refl f) (λ y j e. same-survivor s two r₃ r₅ r₇ r₄ y x j i (same_true (flat_field s (Some y)) f e)) in
       walk-unrefused s f h ∙ rw o

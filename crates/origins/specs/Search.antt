@@ -1,7 +1,6 @@
 -- How a name is looked for: the instances whose prefixes it begins with, and what then has to stand behind; and what each step of the search requires.
 -- Assumes nothing.
-use Rattle.std.specs.Prelude.{ℕ, ◌+◌, ◌-◌, ◌≤◌, ◌<◌, ◌≡◌, Bool, cond, not, ◌&&◌, List, length, get_or, drop}
-use Rattle.std.proofs.Math.Option.{none}
+use Rattle.std.specs.Prelude.{ℕ, ◌+◌, ◌-◌, ◌≤◌, ◌<◌, ◌≡◌, Bool, cond, not, ◌&&◌, List, length, get_or, drop, None}
 use Rattle.names.specs.Lists.{In, begins, same, padded}
 use Rattle.flat_table.specs.Table.{flat_width}
 use Rattle.recipe.specs.Records.{Recipe, name}
@@ -73,13 +72,13 @@ pub record SearchRequires (s : Recipe) (el f fit : List ℕ) : Type 0 where
 
 -- instance i, by the rows of the instances
 pub record PathRequires (s : Recipe) (inst : List ℕ) (i : ℕ) : Type 0 where
-  pub row₇ : fault₇ s ≡ none
+  pub row₇ : fault₇ s ≡ None
   pub rows : InstanceRows s inst (length (instances s))
   pub low : i < length (instances s)
 
 -- the element of number e, by the rows of the instances and of the elements
 pub record OriginRequires (s : Recipe) (inst el : List ℕ) (e : ℕ) : Type 0 where
-  pub row₇ : fault₇ s ≡ none
+  pub row₇ : fault₇ s ≡ None
   pub instance-rows : InstanceRows s inst (length (instances s))
   pub element-rows : ElementRows s el
   pub low : e < length (tree_elements s)

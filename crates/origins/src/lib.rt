@@ -2,10 +2,9 @@
 // Public call, which requires nothing: bandrolt_walk_back, exported to C by origins_c.
 #![tactic(auto)]
 
-ghost use Rattle.std.specs.Prelude.{◌≡◌, [], ◌<◌, length, get_or};
-ghost use Rattle.std.proofs.Math.Option.{map};
+ghost use Rattle.std.specs.Prelude.{◌≡◌, [], ◌<◌, length, get_or, option_map};
+ghost use Rattle.names.specs.Judging.{row_number};
 ghost use Rattle.names.specs.Lists.{padded};
-ghost use Rattle.names.specs.Scans.{found_of};
 ghost use Rattle.recipe.specs.Records.{recipe_at};
 ghost use Rattle.tree.specs.Numbers.{number};
 ghost use Rattle.tree.specs.Tree.{instances, most_depth, tree_elements};
@@ -17,8 +16,9 @@ ghost use Rattle.origins.specs.Search.{prefix_end, PrefixFits, ends_with, is_ori
 
 use elements::{GONE, INSTANCE, RECORD};
 use flat_names::number_at;
-use names::{Found, field_at};
+use names::{Reason, Refusal, field_at};
 use shadow::cell;
+use tree::Size;
 
 // The most instances of a tree.
 const INSTANCES: usize = 64;
@@ -105,18 +105,25 @@ fn is_origin(s: &[u8], w: usize, el: &[u16], e: usize, name: &[u8], fit: &[u16])
 }
 
 // The number of the survivor that has this name.
-fn find_origin(s: &[u8], w: usize, el: &[u16], elems: usize, name: &[u8], fit: &[u16]) -> Found
+fn find_origin(
+    s: &[u8],
+    w: usize,
+    el: &[u16],
+    elems: usize,
+    name: &[u8],
+    fit: &[u16],
+) -> Option<usize>
     requires { SearchRequires (recipe_at w s.now) el.now name.now fit.now × (elems ≡ length (tree_elements (recipe_at w s.now))) }
-    ensures { result ≡ found_of (map (number (recipe_at w s.now)) (origin_of (recipe_at w s.now) name.now)) }
+    ensures { result ≡ option_map (number (recipe_at w s.now)) (origin_of (recipe_at w s.now) name.now) }
 {
     let mut e = 0;
     while e < elems {
         if is_origin(s, w, el, e, name, fit) {
-            return Found::At(e);
+            return Some(e);
         }
         e += 1;
     }
-    Found::Nothing
+    None
 }
 
 // The submodel records from main downward to instance i, and zeros behind them; s and w are for the contract.
@@ -154,16 +161,17 @@ fn origin_at(s: &[u8], w: usize, inst: &[u16], el: &[u16], e: usize) -> Origin
     }
 }
 
-// A refusal's answer.
-fn refusal(number: u64, place: u64) -> Origin
-    ensures { result ≡ walk_refused number place }
-{
-    Origin {
-        number: number,
-        place: place,
-        depth: 0,
-        submodel: [0u64; 4],
-        element: 0,
+impl From<Refusal> for Origin {
+    ghost from_gives = { λ r o. o ≡ walk_refused (row_number r.reason) r.place };
+
+    fn from(r: Refusal) -> Origin {
+        Origin {
+            number: r.reason.number(),
+            place: r.place as u64,
+            depth: 0,
+            submodel: [0u64; 4],
+            element: 0,
+        }
     }
 }
 
@@ -174,21 +182,24 @@ fn walk_composed(
     t: &[u16],
     inst: &[u16],
     el: &[u16],
-    insts: usize,
-    elems: usize,
+    n: Size,
     name: &[u8],
 ) -> Origin
-    requires { Composed (recipe_at w s.now) t.now inst.now el.now insts elems }
+    requires { Composed (recipe_at w s.now) t.now inst.now el.now n.insts n.elems }
     ensures { result ≡ walk_answer (origin_of (recipe_at w s.now) name.now) }
 {
+    let unnamed = Refusal {
+        reason: Reason::Unnamed,
+        place: 0,
+    };
     let f = composer::field_width(w);
     if name.len() != f {
-        return refusal(18, 0);
+        return Origin::from(unnamed);
     }
     let mut fit = [0u16; INSTANCES];
-    fit_prefixes(s, w, t, inst, insts, name, &mut fit);
-    let Found::At(e) = find_origin(s, w, el, elems, name, &fit) else {
-        return refusal(18, 0);
+    fit_prefixes(s, w, t, inst, n.insts, name, &mut fit);
+    let Some(e) = find_origin(s, w, el, n.elems, name, &fit) else {
+        return Origin::from(unnamed);
     };
     origin_at(s, w, inst, el, e)
 }
@@ -200,22 +211,8 @@ pub fn bandrolt_walk_back(recipe: &[u8], name: &[u8]) -> Origin
     let mut t = [0u16; compose::SHADOW_CELLS];
     let mut inst = [0u16; compose::INSTANCE_CELLS];
     let mut el = [0u16; compose::ELEMENT_CELLS];
-    let c = compose::compose(recipe, composer::NAME_WIDTH, &mut t, &mut inst, &mut el);
-    let number = c.number;
-    let place = c.place;
-    let insts = c.insts;
-    let elems = c.elems;
-    if number != 0 {
-        return refusal(number, place);
+    match compose::compose(recipe, composer::NAME_WIDTH, &mut t, &mut inst, &mut el) {
+        Err(refusal) => Origin::from(refusal),
+        Ok(n) => walk_composed(recipe, composer::NAME_WIDTH, &t, &inst, &el, n, name),
     }
-    walk_composed(
-        recipe,
-        composer::NAME_WIDTH,
-        &t,
-        &inst,
-        &el,
-        insts,
-        elems,
-        name,
-    )
 }

@@ -1,11 +1,11 @@
 -- What is in a definition: its records, its holder, and what a look-up by name finds.
 -- Assumes nothing.
+use Rattle.std.specs.Prelude.{Some}
 use mathlib.Core.Path.{◌≡◌, refl}
 use mathlib.Core.Logic.{inl, ⊎_elim}
 use Prim.Native.Nat.{ℕ, zero, suc, ◌+◌, ◌≤◌, ◌<◌}
 use native.Mathlib.Omega.{arith}
 use mathlib.Core.Bool.{Bool, true, false, not, ◌&&◌}
-use mathlib.Core.Option.{some}
 use mathlib.Core.List.{List}
 use lib.ListN.{length, take, drop, length-take}
 use lib.Dec.{eqb, leb}
@@ -60,36 +60,36 @@ module _ (s : Recipe) where
   in-ports d q i = held_in (is_port s) d q i
 
   -- ---- look-ups
-  pub named_in : (n ps : List ℕ) (p : ℕ) → named s n ps ≡ some p → In p ps × (name s p ≡ n)
+  pub named_in : (n ps : List ℕ) (p : ℕ) → named s n ps ≡ Some p → In p ps × (name s p ≡ n)
   unfolding named
   named_in n ps p e =
       let f = some_first (λ q. same (name s q) n) ps p e in
       (f.0, same_true (name s p) n f.1)
 
-  pub element-named : (d : ℕ) (n : List ℕ) (e : ℕ) → element_named s d n ≡ some e → In e (elements s d) × (name s e ≡ n)
+  pub element-named : (d : ℕ) (n : List ℕ) (e : ℕ) → element_named s d n ≡ Some e → In e (elements s d) × (name s e ≡ n)
   unfolding element_named
   element-named d n e h = named_in n (elements s d) e h
 
-  pub submodel-named : (d : ℕ) (n : List ℕ) (m : ℕ) → submodel_named s d n ≡ some m → In m (submodels s d) × (name s m ≡ n)
+  pub submodel-named : (d : ℕ) (n : List ℕ) (m : ℕ) → submodel_named s d n ≡ Some m → In m (submodels s d) × (name s m ≡ n)
   unfolding submodel_named
   submodel-named d n m h = named_in n (submodels s d) m h
 
-  pub port-named : (d : ℕ) (n : List ℕ) (q : ℕ) → port_named s d n ≡ some q → In q (ports s d) × (name s q ≡ n)
+  pub port-named : (d : ℕ) (n : List ℕ) (q : ℕ) → port_named s d n ≡ Some q → In q (ports s d) × (name s q ≡ n)
   unfolding port_named
   port-named d n q h = named_in n (ports s d) q h
 
-  pub definition-named : (n : List ℕ) (d : ℕ) → definition_named s n ≡ some d → In d (definitions s) × (name s d ≡ n)
+  pub definition-named : (n : List ℕ) (d : ℕ) → definition_named s n ≡ Some d → In d (definitions s) × (name s d ≡ n)
   unfolding definition_named
   definition-named n d h = named_in n (definitions s) d h
 
   -- the element that a filled field names is one of the same definition
-  pub element-in : (e : ℕ) (f : List ℕ) (q : ℕ) → element_in s e f ≡ some q
-      → (is_blank f ≡ false) × (element_named s (holder s e) (text f) ≡ some q) × In q (elements s (holder s e))
+  pub element-in : (e : ℕ) (f : List ℕ) (q : ℕ) → element_in s e f ≡ Some q
+      → (is_blank f ≡ false) × (element_named s (holder s e) (text f) ≡ Some q) × In q (elements s (holder s e))
   unfolding element_in
   element-in e f q h =
       by_cases (is_blank f)
       (λ k. not_none (rw (k, element_in) at h))
-      (λ k. let g : element_named s (holder s e) (text f) ≡ some q = rw (k, element_in) at h in
+      (λ k. let g : element_named s (holder s e) (text f) ≡ Some q = rw (k, element_in) at h in
       (k, g, (element-named (holder s e) (text f) q g).0))
 
   -- ---- main, and the holder of each record, is a definition

@@ -1,5 +1,6 @@
 -- What the record at a place reads as, field by field: one law for each way through its reader.
 -- Assumes nothing.
+use Rattle.std.specs.Prelude.{None, Some}
 use mathlib.Core.Path.{◌≡◌, refl, sym, ap, ◌∙◌}
 use Prim.Native.Nat.{ℕ, zero, suc, ◌+◌, ◌-◌, ◌*◌, ◌≤◌, ◌<◌}
 use native.Mathlib.Omega.{arith}
@@ -20,12 +21,9 @@ use Rattle.recipe.specs.Reading.{ends_with_underscore, is_way, is_form, fault₃
 use Rattle.recipe.specs.Fields.{way_of, target_reading, element_fields, port_fields, submodel_fields, mark_fields, mark_reading, factors_fields, record_of, reading_of, RecordAt, TargetAt, MarkAt}
 use Rattle.recipe.specs.declared.Way.{Way}
 use Rattle.recipe.specs.declared.Way.TheVariants.{ByElement, ByPort}
-use Rattle.recipe.specs.declared.Target.TheVariants.{Named, Unnamed}
 use Rattle.recipe.specs.declared.Mark.{Mark}
-use Rattle.recipe.specs.declared.Marked.TheVariants.{Marks, Unmarked}
 use Rattle.recipe.specs.declared.Record.{Record}
 use Rattle.recipe.specs.declared.Record.TheVariants.{Model, Element, Port, Submodel, Deletion, Replacement, ReplacedBy, Factors}
-use Rattle.recipe.specs.declared.Read.TheVariants.{As, Refused}
 use Rattle.recipe.proofs.Bodies.{by_kind, by-mark, by-pointer, model-form, element-form, port-form, submodel-form, mark-form, factors-form, mark-kind}
 use Rattle.recipe.proofs.Reading.{readable-fits, known, next_more}
 
@@ -146,34 +144,34 @@ module _ (s : Recipe) (p : ℕ) where
       target_at m.room (ap pointer_kind m.kinded ∙ or_left (mark_kind k) (port_kind k) m.marks)
       (e ∙ ap (λ (j : ℕ). part_offset s.width j (submodel_part j)) (sym m.kinded))
 
-  marked : {m : Mark} → Marks m ≡ mark_reading s p → (is_form s p ≡ true) × (m ≡ mark_fields s p)
+  marked : {m : Mark} → Some m ≡ mark_reading s p → (is_form s p ≡ true) × (m ≡ mark_fields s p)
   unfolding mark_reading
   marked {m} h =
       by_cases (is_form s p)
-      (λ f. let g : Marks m ≡ Marks (mark_fields s p) = rw f at h in (f, let z : m ≡ mark_fields s p = cc in z))
-      (λ f. let g : Marks m ≡ Unmarked = rw f at h in let z : ◌≡◌ {A = ℕ} 0 1 = cc in absurd (omega arith))
+      (λ f. let g : Some m ≡ Some (mark_fields s p) = rw f at h in (f, let z : m ≡ mark_fields s p = cc in z))
+      (λ f. let g : Some m ≡ None = rw f at h in let z : ◌≡◌ {A = ℕ} 0 1 = cc in absurd (omega arith))
 
-  pub unmarked : Unmarked ≡ mark_reading s p → Refused ≡ reading_of s p
+  pub unmarked : None ≡ mark_reading s p → None ≡ reading_of s p
   unfolding reading_of mark_reading
   unmarked h =
       by_cases (is_form s p)
-      (λ f. let g : Unmarked ≡ Marks (mark_fields s p) = rw f at h in let z : ◌≡◌ {A = ℕ} 0 1 = cc in absurd (omega arith))
+      (λ f. let g : None ≡ Some (mark_fields s p) = rw f at h in let z : ◌≡◌ {A = ℕ} 0 1 = cc in absurd (omega arith))
       (λ f. rw f)
 
-  pub deletion-read : deletion_kind (kind s p) ≡ true → {m : Mark} → Marks m ≡ mark_reading s p → As (Deletion m) ≡ reading_of s p
+  pub deletion-read : deletion_kind (kind s p) ≡ true → {m : Mark} → Some m ≡ mark_reading s p → Some (Deletion m) ≡ reading_of s p
   unfolding reading_of record_of is_model is_element is_port is_submodel is_deletion
   deletion-read d h = let r = marked h in rw (r.0, eqb-true (kind s p) 5 d, r.1)
 
-  pub replaced-by-read : replaced_by_kind (kind s p) ≡ true → {m : Mark} → Marks m ≡ mark_reading s p → As (ReplacedBy m) ≡ reading_of s p
+  pub replaced-by-read : replaced_by_kind (kind s p) ≡ true → {m : Mark} → Some m ≡ mark_reading s p → Some (ReplacedBy m) ≡ reading_of s p
   unfolding reading_of record_of is_model is_element is_port is_submodel is_deletion is_replacement is_replaced_by
   replaced-by-read b h = let r = marked h in rw (r.0, eqb-true (kind s p) 7 b, r.1)
 
   pub replacement-read : mark_kind (kind s p) ≡ true → deletion_kind (kind s p) ≡ false → replaced_by_kind (kind s p) ≡ false
-      → {m : Mark} → Marks m ≡ mark_reading s p → As (Replacement m) ≡ reading_of s p
+      → {m : Mark} → Some m ≡ mark_reading s p → Some (Replacement m) ≡ reading_of s p
   unfolding reading_of record_of is_model is_element is_port is_submodel is_deletion is_replacement
   replacement-read k d b {m} h =
       let r = marked h in
-      by-mark (λ j. kind s p ≡ j → As (Replacement m) ≡ reading_of s p)
+      by-mark (λ j. kind s p ≡ j → Some (Replacement m) ≡ reading_of s p)
       (λ j. absurd (eqb-false (kind s p) 5 d j))
       (λ j. rw (r.0, j, r.1))
       (λ j. absurd (eqb-false (kind s p) 7 b j))
@@ -181,84 +179,84 @@ module _ (s : Recipe) (p : ℕ) where
 
   -- ---- way and target
   module _ (k : ℕ) (begins : k ≡ submodel_offset s p) where
-    pub target-far : 1 < get_or s.bytes (p + 1 + (k + s.width)) 0 → Unnamed ≡ target_reading s p
+    pub target-far : 1 < get_or s.bytes (p + 1 + (k + s.width)) 0 → None ≡ target_reading s p
     unfolding target_reading is_way way byte
     target-far h = rw (← begins, lt-leb (get_or s.bytes (p + 1 + (k + s.width)) 0) 1 h)
 
     module _ (h : get_or s.bytes (p + 1 + (k + s.width)) 0 ≤ 1) where
-      pub target-nameless : is_name (field s p (k + s.width + 1)) ≡ false → Unnamed ≡ target_reading s p
+      pub target-nameless : is_name (field s p (k + s.width + 1)) ≡ false → None ≡ target_reading s p
       unfolding target_reading is_way way byte target_field
       target-nameless a = rw (← begins, le-leb (get_or s.bytes (p + 1 + (k + s.width)) 0) 1 h, a)
 
       pub target-element : is_name (field s p (k + s.width + 1)) ≡ true → get_or s.bytes (p + 1 + (k + s.width)) 0 ≡ 0
-          → Named (ByElement (p + 1 + (k + s.width + 1))) ≡ target_reading s p
+          → Some (ByElement (p + 1 + (k + s.width + 1))) ≡ target_reading s p
       unfolding target_reading is_way way byte target_field way_of
       target-element a z =
           rw (← begins, le-leb (get_or s.bytes (p + 1 + (k + s.width)) 0) 1 h, a, eq-eqb (get_or s.bytes (p + 1 + (k + s.width)) 0) 0 z)
 
       pub target-port : is_name (field s p (k + s.width + 1)) ≡ true → (get_or s.bytes (p + 1 + (k + s.width)) 0 ≡ 0 → ⊥)
-          → Named (ByPort (p + 1 + (k + s.width + 1))) ≡ target_reading s p
+          → Some (ByPort (p + 1 + (k + s.width + 1))) ≡ target_reading s p
       unfolding target_reading is_way way byte target_field way_of
       target-port a z =
           rw (← begins, le-leb (get_or s.bytes (p + 1 + (k + s.width)) 0) 1 h, a, ne_eqb (get_or s.bytes (p + 1 + (k + s.width)) 0) 0 z)
 
-  target-named : {t : Way} → Named t ≡ target_reading s p → (is_way (way s p) && is_name (target_field s p) ≡ true) × (t ≡ way_of s p)
+  target-named : {t : Way} → Some t ≡ target_reading s p → (is_way (way s p) && is_name (target_field s p) ≡ true) × (t ≡ way_of s p)
   unfolding target_reading
   target-named {t} h =
       by_cases (is_way (way s p) && is_name (target_field s p))
-      (λ f. let g : Named t ≡ Named (way_of s p) = rw f at h in (f, let z : t ≡ way_of s p = cc in z))
-      (λ f. let g : Named t ≡ Unnamed = rw f at h in let z : ◌≡◌ {A = ℕ} 0 1 = cc in absurd (omega arith))
+      (λ f. let g : Some t ≡ Some (way_of s p) = rw f at h in (f, let z : t ≡ way_of s p = cc in z))
+      (λ f. let g : Some t ≡ None = rw f at h in let z : ◌≡◌ {A = ℕ} 0 1 = cc in absurd (omega arith))
 
-  target-unnamed : Unnamed ≡ target_reading s p → is_way (way s p) && is_name (target_field s p) ≡ false
+  target-unnamed : None ≡ target_reading s p → is_way (way s p) && is_name (target_field s p) ≡ false
   unfolding target_reading
   target-unnamed h =
       by_cases (is_way (way s p) && is_name (target_field s p))
-      (λ f. let g : Unnamed ≡ Named (way_of s p) = rw f at h in let z : ◌≡◌ {A = ℕ} 0 1 = cc in absurd (omega arith))
+      (λ f. let g : None ≡ Some (way_of s p) = rw f at h in let z : ◌≡◌ {A = ℕ} 0 1 = cc in absurd (omega arith))
       (λ f. f)
 
   -- ---- by kind: 1
   module _ (k : kind s p ≡ 1) where
-    pub model-refused : is_name (field s p 0) ≡ false → Refused ≡ reading_of s p
+    pub model-refused : is_name (field s p 0) ≡ false → None ≡ reading_of s p
     unfolding reading_of first_field
     model-refused a = rw (model-form s p k, a)
 
-    pub model-read : is_name (field s p 0) ≡ true → As (Model (p + 1)) ≡ reading_of s p
+    pub model-read : is_name (field s p 0) ≡ true → Some (Model (p + 1)) ≡ reading_of s p
     unfolding reading_of record_of is_model first_field
     model-read a = rw (model-form s p k, a, k)
 
   -- 2
   module _ (k : kind s p ≡ 2) where
-    element-reading : reading_of s p ≡ cond (is_form s p) (As (Element (element_fields s p))) Refused
+    element-reading : reading_of s p ≡ cond (is_form s p) (Some (Element (element_fields s p))) None
     unfolding reading_of record_of is_model is_element
     element-reading = rw k
 
-    pub element-nameless : is_name (field s p 0) ≡ false → Refused ≡ reading_of s p
+    pub element-nameless : is_name (field s p 0) ≡ false → None ≡ reading_of s p
     unfolding first_field
     element-nameless a = sym (element-reading ∙ rw (element-form s p k, a))
 
     module _ (a : is_name (field s p 0) ≡ true) where
-      pub element-classless : is_class (get_or s.bytes (p + 1 + s.width) 0) ≡ false → Refused ≡ reading_of s p
+      pub element-classless : is_class (get_or s.bytes (p + 1 + s.width) 0) ≡ false → None ≡ reading_of s p
       unfolding first_field class byte
       element-classless b = sym (element-reading ∙ rw (element-form s p k, a, b))
 
       module _ (b : is_class (get_or s.bytes (p + 1 + s.width) 0) ≡ true) where
-        pub element-parent : is_name_or_blank (field s p (s.width + 1)) ≡ false → Refused ≡ reading_of s p
+        pub element-parent : is_name_or_blank (field s p (s.width + 1)) ≡ false → None ≡ reading_of s p
         unfolding first_field class byte parent_field
         element-parent c = sym (element-reading ∙ rw (element-form s p k, a, b, c))
 
         module _ (c : is_name_or_blank (field s p (s.width + 1)) ≡ true) where
-          pub element-reference : is_name_or_blank (field s p (s.width + (1 + s.width))) ≡ false → Refused ≡ reading_of s p
+          pub element-reference : is_name_or_blank (field s p (s.width + (1 + s.width))) ≡ false → None ≡ reading_of s p
           unfolding first_field class byte parent_field reference_field
           element-reference d = sym (element-reading ∙ rw (element-form s p k, a, b, c, d))
 
           pub element-read : is_name_or_blank (field s p (s.width + (1 + s.width))) ≡ true
-              → As (Element (record { name = p + 1; class = get_or s.bytes (p + 1 + s.width) 0; parent = p + 1 + (s.width + 1); reference = p + 1 + (s.width + (1 + s.width)) })) ≡ reading_of s p
+              → Some (Element (record { name = p + 1; class = get_or s.bytes (p + 1 + s.width) 0; parent = p + 1 + (s.width + 1); reference = p + 1 + (s.width + (1 + s.width)) })) ≡ reading_of s p
           unfolding first_field class byte parent_field reference_field element_fields
           element-read d = sym (element-reading ∙ rw (element-form s p k, a, b, c, d))
 
   -- 3
   module _ (k : kind s p ≡ 3) where
-    port-reading : reading_of s p ≡ cond (is_form s p) (As (Port (port_fields s p))) Refused
+    port-reading : reading_of s p ≡ cond (is_form s p) (Some (Port (port_fields s p))) None
     unfolding reading_of record_of is_model is_element is_port
     port-reading = rw k
 
@@ -266,12 +264,12 @@ module _ (s : Recipe) (p : ℕ) where
     unfolding submodel_offset
     port-offset = rw k
 
-    pub port-nameless : is_name (field s p 0) ≡ false → Refused ≡ reading_of s p
+    pub port-nameless : is_name (field s p 0) ≡ false → None ≡ reading_of s p
     unfolding first_field
     port-nameless a = sym (port-reading ∙ rw (port-form s p k, a))
 
     module _ (a : is_name (field s p 0) ≡ true) where
-      pub port-submodel : is_name_or_blank (field s p s.width) ≡ false → Refused ≡ reading_of s p
+      pub port-submodel : is_name_or_blank (field s p s.width) ≡ false → None ≡ reading_of s p
       unfolding first_field submodel_field
       port-submodel b = sym (port-reading ∙ rw (port-form s p k, a, ← port-offset, b))
 
@@ -280,25 +278,25 @@ module _ (s : Recipe) (p : ℕ) where
         unfolding first_field submodel_field
         port-target = rw (port-form s p k, a, ap (λ (o : ℕ). is_name_or_blank (field s p o)) (sym port-offset) ∙ b)
 
-        pub port-untargeted : Unnamed ≡ target_reading s p → Refused ≡ reading_of s p
+        pub port-untargeted : None ≡ target_reading s p → None ≡ reading_of s p
         port-untargeted h = sym (port-reading ∙ rw (port-target ∙ target-unnamed h))
 
-        pub port-read : {t : Way} → Named t ≡ target_reading s p → As (Port (record { name = p + 1; submodel = p + 1 + s.width; target = t })) ≡ reading_of s p
+        pub port-read : {t : Way} → Some t ≡ target_reading s p → Some (Port (record { name = p + 1; submodel = p + 1 + s.width; target = t })) ≡ reading_of s p
         unfolding port_fields
         port-read {t} h = let r = target-named h in sym (port-reading ∙ rw (port-target ∙ r.0, r.1, ← port-offset))
 
   -- 4
   module _ (k : kind s p ≡ 4) where
-    submodel-reading : reading_of s p ≡ cond (is_form s p) (As (Submodel (submodel_fields s p))) Refused
+    submodel-reading : reading_of s p ≡ cond (is_form s p) (Some (Submodel (submodel_fields s p))) None
     unfolding reading_of record_of is_model is_element is_port is_submodel
     submodel-reading = rw k
 
-    pub submodel-nameless : is_name (field s p 0) ≡ false → Refused ≡ reading_of s p
+    pub submodel-nameless : is_name (field s p 0) ≡ false → None ≡ reading_of s p
     unfolding first_field
     submodel-nameless a = sym (submodel-reading ∙ rw (submodel-form s p k, a))
 
     module _ {n : ℕ} (a : Name n ≡ field_of (field s p 0)) where
-      pub submodel-underscore : get_or s.bytes (p + n) 0 ≡ 95 → Refused ≡ reading_of s p
+      pub submodel-underscore : get_or s.bytes (p + n) 0 ≡ 95 → None ≡ reading_of s p
       unfolding first_field ends_with_underscore underscore
       submodel-underscore h = sym (submodel-reading ∙ rw (submodel-form s p k, is_name_lem (field s p 0) a, last_byte a, eq-eqb (get_or s.bytes (p + n) 0) 95 h))
 
@@ -307,46 +305,46 @@ module _ (s : Recipe) (p : ℕ) where
         unfolding first_field model_field ends_with_underscore underscore
         submodel-model = rw (submodel-form s p k, is_name_lem (field s p 0) a, last_byte a, ne_eqb (get_or s.bytes (p + n) 0) 95 h)
 
-        pub submodel-modelless : is_name (field s p s.width) ≡ false → Refused ≡ reading_of s p
+        pub submodel-modelless : is_name (field s p s.width) ≡ false → None ≡ reading_of s p
         submodel-modelless b = sym (submodel-reading ∙ rw (submodel-model ∙ b))
 
-        pub submodel-read : is_name (field s p s.width) ≡ true → As (Submodel (record { name = p + 1; model = p + 1 + s.width })) ≡ reading_of s p
+        pub submodel-read : is_name (field s p s.width) ≡ true → Some (Submodel (record { name = p + 1; model = p + 1 + s.width })) ≡ reading_of s p
         unfolding submodel_fields
         submodel-read b = sym (submodel-reading ∙ rw (submodel-model ∙ b))
 
   -- 8
   module _ (k : kind s p ≡ 8) where
-    factors-reading : reading_of s p ≡ cond (is_form s p) (As (Factors (factors_fields s p))) Refused
+    factors-reading : reading_of s p ≡ cond (is_form s p) (Some (Factors (factors_fields s p))) None
     unfolding reading_of record_of is_model is_element is_port is_submodel is_deletion is_replacement is_replaced_by is_factors
     factors-reading = rw k
 
-    pub factors-nameless : is_name (field s p 0) ≡ false → Refused ≡ reading_of s p
+    pub factors-nameless : is_name (field s p 0) ≡ false → None ≡ reading_of s p
     unfolding first_field
     factors-nameless a = sym (factors-reading ∙ rw (factors-form s p k, a))
 
     module _ (a : is_name (field s p 0) ≡ true) where
-      pub factors-time : is_name_or_blank (field s p s.width) ≡ false → Refused ≡ reading_of s p
+      pub factors-time : is_name_or_blank (field s p s.width) ≡ false → None ≡ reading_of s p
       unfolding first_field time_field
       factors-time b = sym (factors-reading ∙ rw (factors-form s p k, a, b))
 
       module _ (b : is_name_or_blank (field s p s.width) ≡ true) where
-        pub factors-extent : is_name_or_blank (field s p (s.width + s.width)) ≡ false → Refused ≡ reading_of s p
+        pub factors-extent : is_name_or_blank (field s p (s.width + s.width)) ≡ false → None ≡ reading_of s p
         unfolding first_field time_field extent_field
         factors-extent c = sym (factors-reading ∙ rw (factors-form s p k, a, b, c))
 
         pub factors-read : is_name_or_blank (field s p (s.width + s.width)) ≡ true
-            → As (Factors (record { submodel = p + 1; time = p + 1 + s.width; extent = p + 1 + (s.width + s.width) })) ≡ reading_of s p
+            → Some (Factors (record { submodel = p + 1; time = p + 1 + s.width; extent = p + 1 + (s.width + s.width) })) ≡ reading_of s p
         unfolding first_field time_field extent_field factors_fields
         factors-read c = sym (factors-reading ∙ rw (factors-form s p k, a, b, c))
 
   -- 5 to 7
   module _ (m : is_mark s p ≡ true) where
-    pub mark-nameless : is_name (field s p 0) ≡ false → Unmarked ≡ mark_reading s p
+    pub mark-nameless : is_name (field s p 0) ≡ false → None ≡ mark_reading s p
     unfolding mark_reading first_field
     mark-nameless a = rw (mark-form s p m, a)
 
     module _ (k : ℕ) (begins : k ≡ submodel_offset s p) (a : is_name (field s p 0) ≡ true) where
-      pub mark-submodelless : is_name (field s p k) ≡ false → Unmarked ≡ mark_reading s p
+      pub mark-submodelless : is_name (field s p k) ≡ false → None ≡ mark_reading s p
       unfolding mark_reading first_field submodel_field
       mark-submodelless b = rw (mark-form s p m, a, ← begins, b)
 
@@ -355,40 +353,40 @@ module _ (s : Recipe) (p : ℕ) where
         unfolding first_field submodel_field
         mark-end = rw (mark-form s p m, a, ap (λ (o : ℕ). is_name (field s p o)) (sym begins) ∙ b)
 
-        pub mark-untargeted : Unnamed ≡ target_reading s p → Unmarked ≡ mark_reading s p
+        pub mark-untargeted : None ≡ target_reading s p → None ≡ mark_reading s p
         unfolding mark_reading
         mark-untargeted h = rw (mark-end ∙ target-unnamed h)
 
-        pub mark-read : {t : Way} → Named t ≡ target_reading s p → Marks (record { owner = p + 1; submodel = p + 1 + k; target = t }) ≡ mark_reading s p
+        pub mark-read : {t : Way} → Some t ≡ target_reading s p → Some (record { owner = p + 1; submodel = p + 1 + k; target = t }) ≡ mark_reading s p
         unfolding mark_reading mark_fields
         mark-read {t} h = let r = target-named h in rw (mark-end ∙ r.0, r.1, ← begins)
 
 -- ---- what the answer says of the form
 module _ (s : Recipe) (p : ℕ) where
-  pub read-form : {r : Record} → As r ≡ reading_of s p → not (is_form s p) ≡ false
+  pub read-form : {r : Record} → Some r ≡ reading_of s p → not (is_form s p) ≡ false
   unfolding reading_of
   read-form {r} e =
       by_cases (is_form s p)
       (λ f. rw f)
-      (λ f. let g : As r ≡ Refused = rw f at e in let z : ◌≡◌ {A = ℕ} 0 1 = cc in absurd (omega arith))
+      (λ f. let g : Some r ≡ None = rw f at e in let z : ◌≡◌ {A = ℕ} 0 1 = cc in absurd (omega arith))
 
   -- a record that row 2 does not refuse has one of the kinds
-  record-known : is_readable s p ≡ true → (r : Record) × (record_of s p ≡ As r)
+  record-known : is_readable s p ≡ true → (r : Record) × (record_of s p ≡ Some r)
   unfolding is_readable record_of is_model is_element is_port is_submodel is_deletion is_replacement is_replaced_by is_factors
   record-known e =
-      by_kind (λ k. kind s p ≡ k → (r : Record) × (record_of s p ≡ As r))
+      by_kind (λ k. kind s p ≡ k → (r : Record) × (record_of s p ≡ Some r))
       (λ k. (Model (p + 1), rw k)) (λ k. (Element (element_fields s p), rw k)) (λ k. (Port (port_fields s p), rw k)) (λ k. (Submodel (submodel_fields s p), rw k))
       (λ k. (Deletion (mark_fields s p), rw k)) (λ k. (Replacement (mark_fields s p), rw k)) (λ k. (ReplacedBy (mark_fields s p), rw k))
       (λ k. (Factors (factors_fields s p), rw k))
       (kind s p) (known s p e) refl
 
-  pub refused-form : is_readable s p ≡ true → Refused ≡ reading_of s p → not (is_form s p) ≡ true
+  pub refused-form : is_readable s p ≡ true → None ≡ reading_of s p → not (is_form s p) ≡ true
   unfolding reading_of
   refused-form h e =
       by_cases (is_form s p)
       (λ f.
       let r = record-known h in
-      let g : Refused ≡ As r.0 = rw f at e ∙ r.1 in
+      let g : None ≡ Some r.0 = rw f at e ∙ r.1 in
       let z : ◌≡◌ {A = ℕ} 0 1 = cc in
       absurd (omega arith))
       (λ f. rw f)

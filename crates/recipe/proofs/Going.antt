@@ -1,11 +1,11 @@
 -- A loop over the records of a recipe that stops at the first that passes a test: what is left of it at p.
 -- Assumes nothing.
+use Rattle.std.specs.Prelude.{None, Some}
 use mathlib.Core.Path.{◌≡◌, refl, ap, ◌∙◌}
 use mathlib.Core.Logic.{inl, inr}
 use Prim.Native.Nat.{ℕ, zero, suc, ◌+◌, ◌≤◌, ◌<◌}
 use native.Mathlib.Omega.{arith}
 use mathlib.Core.Bool.{Bool, true, false}
-use mathlib.Core.Option.{none, some}
 use mathlib.Core.List.{[], ◌∷◌}
 use lib.ListN.{length, get_or}
 use Rattle.names.specs.Lists.{In, first}
@@ -63,7 +63,7 @@ pub here-fits : {s : Recipe} {t : ℕ → Bool} {p : ℕ} → Here s t p → nex
 here-fits {s} {t} {p} h = readable-fits s p h.readable
 
 -- it passes the test: it is the first
-pub going-hit : {s : Recipe} {t : ℕ → Bool} {p : ℕ} → Here s t p → t p ≡ true → first t (places s) ≡ some p
+pub going-hit : {s : Recipe} {t : ℕ → Bool} {p : ℕ} → Here s t p → t p ≡ true → first t (places s) ≡ Some p
 going-hit {s} {t} {p} h e = h.rest ∙ rw (e, first)
 
 -- it does not: go on behind it
@@ -76,7 +76,7 @@ none-past s zero p l = refl
 none-past s (suc n) p l = rw (unread s p l, places_from)
 
 -- the end: none passes
-pub going_end : {s : Recipe} {t : ℕ → Bool} {p : ℕ} → Going s t p → length s.bytes ≤ p → first t (places s) ≡ none
+pub going_end : {s : Recipe} {t : ℕ → Bool} {p : ℕ} → Going s t p → length s.bytes ≤ p → first t (places s) ≡ None
 going_end {s} {t} {p} g l = g.rest ∙ ap (first t) (none-past s g.tries p l)
 
 -- the record's length is that of its kind: what is left behind it, within the recipe

@@ -8,3 +8,4 @@ pub mod Reaching
 pub mod Rows
 pub mod Spans
 pub mod Fields
+pub mod Steps

@@ -1,11 +1,11 @@
 -- Reading a recipe's records: as many tries as there are bytes left suffice, places rise, and what a loop over the records keeps.
 -- Assumes nothing.
+use Rattle.std.specs.Prelude.{None, Some}
 use mathlib.Core.Path.{◌≡◌, refl, sym, ap, ◌∙◌}
 use mathlib.Core.Logic.{⊎_elim}
 use Prim.Native.Nat.{ℕ, zero, suc, ◌+◌, ◌≤◌, ◌<◌}
 use native.Mathlib.Omega.{arith}
 use mathlib.Core.Bool.{Bool, true, false, ◌&&◌, ◌||◌, false≢true, and-false}
-use mathlib.Core.Option.{none, some}
 use mathlib.Core.List.{List, ◌∷◌}
 use lib.ListN.{length, get_or-eq_default}
 use lib.Dec.{leb, ltb}
@@ -86,7 +86,7 @@ module _ (s : Recipe) where
   places-rise = places-rise-from (length s.bytes) 0
 
   -- "then its lowest place": what a row's first fault is
-  pub lowest-place : (t : ℕ → Bool) (p q : ℕ) → first t (places s) ≡ some p → In q (places s) → q < p → t q ≡ false
+  pub lowest-place : (t : ℕ → Bool) (p q : ℕ) → first t (places s) ≡ Some p → In q (places s) → q < p → t q ≡ false
   lowest-place t p q e i l = first-lowest t 0 (places s) p q places-rise e i l
 
   readable-from : (n p q : ℕ) → In q (places_from n s p) → is_readable s q ≡ true
@@ -142,7 +142,7 @@ module _ (s : Recipe) where
   unfolding stop
   stop-within = stop-fits (length s.bytes) 0 (omega arith)
 
-  pub read_through : fault₂ s ≡ none → stop s ≡ length s.bytes
+  pub read_through : fault₂ s ≡ None → stop s ≡ length s.bytes
   unfolding fault₂
   read_through h =
       by_cases (ltb (stop s) (length s.bytes))

@@ -112,3 +112,17 @@ length_none w (suc k) h = absurd (omega arith)
 pub length-past : (w k : ℕ) → 9 ≤ k → 1 ≡ record_length w k
 unfolding record_length
 length-past w k h = rw (no_body k h)
+
+-- ---- no record is long: it has three names at most, and one single byte
+parts-few : (k : ℕ) → (names_in (body_of k) ≤ 3) × (singles_in (body_of k) ≤ 1)
+parts-few k =
+    by_cases (ltb k 9)
+    (λ h.
+    by-nine (λ j. (names_in (body_of j) ≤ 3) × (singles_in (body_of j) ≤ 1))
+    (omega arith, omega arith) (omega arith, omega arith) (omega arith, omega arith) (omega arith, omega arith) (omega arith, omega arith)
+    (omega arith, omega arith) (omega arith, omega arith) (omega arith, omega arith) (omega arith, omega arith)
+    k (ltb-true k 9 h))
+    (λ h. rw (no_body k (ltb-false k 9 h)) (omega arith, omega arith))
+
+pub length-low : (w k : ℕ) → w ≤ 65536 → record_length w k ≤ 196610
+length-low w k h = let f = parts-few k in omega (arith, length-parts w k refl refl, names-fit f.0 h, f.1)

@@ -1,15 +1,15 @@
 -- What each of rows 3 to 6 says of a recipe that it does not refuse: forms, names used once, what is declared, no definition in itself.
 -- Assumes nothing.
+use Rattle.std.specs.Prelude.{None, Some, is_some}
 use mathlib.Core.Path.{◌≡◌, refl, sym, ap, ◌∙◌}
 use mathlib.Core.Logic.{◌⊎◌, inl, inr}
 use Prim.Native.Nat.{ℕ, ◌≤◌, ◌<◌}
 use native.Mathlib.Omega.{arith}
 use mathlib.Core.Bool.{Bool, true, false, not, ◌&&◌, ◌||◌, true≢false}
-use mathlib.Core.Option.{none, some}
 use lib.ListN.{length}
 use lib.Dec.{eqb, ltb}
 use borrow.Author.Tests.{eqb-true, eqb-false, ltb-true, lt-ltb, eq-eqb, not-true, not-false}
-use Rattle.names.specs.Lists.{In, any, is_some, last_or, same}
+use Rattle.names.specs.Lists.{In, any, last_or, same}
 use Rattle.names.specs.Names.{text, is_blank, is_name, is_name_or_blank, are_name_characters, underscore}
 use Rattle.names.proofs.Tests.{by-option, not-both, not_none, three, and_left, and_right, both, or_left, or_right, or-none-left, or-none-right, is-some}
 use Rattle.names.proofs.Lists.{none_first, not-any, same_refl}
@@ -25,17 +25,17 @@ use Rattle.recipe.proofs.Definitions.{in-elements, in-submodels, element-named}
 use Rattle.recipe.proofs.Reaching.{plain-reaches}
 
 -- a test at the start that gives no place fails
-pub not-at-start : (b : Bool) → at_start b ≡ none → b ≡ false
+pub not-at-start : (b : Bool) → at_start b ≡ None → b ≡ false
 unfolding at_start
 not-at-start true e = not_none (sym e)
 not-at-start false e = refl
 
 -- ---- row 1
-pub length-refused : (s : Recipe) → eqb (length s.bytes) 0 || ltb 16384 (length s.bytes) ≡ true → fault₁ s ≡ some 0
+pub length-refused : (s : Recipe) → eqb (length s.bytes) 0 || ltb 16384 (length s.bytes) ≡ true → fault₁ s ≡ Some 0
 unfolding fault₁ at_start most_bytes
 length-refused s e = rw e
 
-pub length-passed : (s : Recipe) → eqb (length s.bytes) 0 || ltb 16384 (length s.bytes) ≡ false → fault₁ s ≡ none
+pub length-passed : (s : Recipe) → eqb (length s.bytes) 0 || ltb 16384 (length s.bytes) ≡ false → fault₁ s ≡ None
 unfolding fault₁ at_start most_bytes
 length-passed s e = rw e
 
@@ -59,7 +59,7 @@ module _ (s : Recipe) where
       omega arith
 
   -- ---- row 3
-  module _ (h₃ : fault₃ s ≡ none) where
+  module _ (h₃ : fault₃ s ≡ None) where
     form : (p : ℕ) → In p (places s) → is_form s p ≡ true
     unfolding fault₃
     form p i = not-false (is_form s p) (none_first (λ q. not (is_form s q)) (places s) p h₃ i)
@@ -133,7 +133,7 @@ module _ (s : Recipe) where
       let r = in-submodels s d m i in
       record { placed = r.placed; held = r.held; is = or_right (is_element s m) (is_submodel s m) r.passes }
 
-  module _ (h₄ : fault₄ s ≡ none) where
+  module _ (h₄ : fault₄ s ≡ None) where
     -- of two declared records of a definition, with one name, none is earlier
     not_earlier : (d p q : ℕ) → Declared d p → Declared d q → name s p ≡ name s q → p < q → ⊥
     unfolding fault₄ repeats share_names
@@ -154,7 +154,7 @@ module _ (s : Recipe) where
         (λ l. absurd (not_earlier d q p b a (sym e) l))
 
   -- ---- row 5
-  module _ (h₅ : fault₅ s ≡ none) where
+  module _ (h₅ : fault₅ s ≡ None) where
     declared : (p : ℕ) → In p (places s) → is_undeclared s p ≡ false
     unfolding fault₅
     declared p i = none_first (is_undeclared s) (places s) p h₅ i
@@ -192,19 +192,19 @@ module _ (s : Recipe) where
         let r = in-elements s d e i in
         rw (eqb-true (kind s e) 2 r.passes) at (declared e r.placed)
 
-    pub blank-parent : (d e : ℕ) → In e (elements s d) → is_blank (parent_field s e) ≡ true → parent_allowed (class s e) none ≡ true
+    pub blank-parent : (d e : ℕ) → In e (elements s d) → is_blank (parent_field s e) ≡ true → parent_allowed (class s e) None ≡ true
     unfolding is_parent_fault
-    blank-parent d e i b = not-false (parent_allowed (class s e) none) (rw b at (no-parent-fault d e i))
+    blank-parent d e i b = not-false (parent_allowed (class s e) None) (rw b at (no-parent-fault d e i))
 
     pub filled-parent : (d e : ℕ) → In e (elements s d) → is_blank (parent_field s e) ≡ false
-        → (q : ℕ) × (element_in s e (parent_field s e) ≡ some q) × (q < e) × (parent_allowed (class s e) (some (class s q)) ≡ true)
+        → (q : ℕ) × (element_in s e (parent_field s e) ≡ Some q) × (q < e) × (parent_allowed (class s e) (Some (class s q)) ≡ true)
     unfolding is_parent_fault is_parent
     filled-parent d e i b =
         by-option (element_in s e (parent_field s e))
         (λ p. absurd (true≢false (rw (b, p) at (no-parent-fault d e i))))
         (λ q p.
-        let h : ltb q e && parent_allowed (class s e) (some (class s q)) ≡ true =
-        not-false (ltb q e && parent_allowed (class s e) (some (class s q))) (rw (b, p) at (no-parent-fault d e i)) in
+        let h : ltb q e && parent_allowed (class s e) (Some (class s q)) ≡ true =
+        not-false (ltb q e && parent_allowed (class s e) (Some (class s q))) (rw (b, p) at (no-parent-fault d e i)) in
         (q, p, ltb-true q e (and_left (ltb q e) _ h), and_right (ltb q e) _ h))
 
     -- "blank-submodel port with way 1 or unknown element" does not apply: such a port names an element of its definition
@@ -219,6 +219,6 @@ module _ (s : Recipe) where
 
   -- ---- row 6
   -- "definition reaches itself" does not apply: no chain of submodel records leads from a definition to itself
-  pub no-cycle : fault₆ s ≡ none → (d : ℕ) → In d (definitions s) → Reach s d d → ⊥
+  pub no-cycle : fault₆ s ≡ None → (d : ℕ) → In d (definitions s) → Reach s d d → ⊥
   unfolding fault₆
   no-cycle h₆ d i r = not-both (plain-reaches s d d r) (none_first (λ c. reaches s c c) (definitions s) d h₆ i)

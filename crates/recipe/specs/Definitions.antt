@@ -1,7 +1,6 @@
 -- Definitions, and what is looked up in one by its name. A definition is named by the place of its kind 1 record.
 -- Assumes nothing.
-use Rattle.std.specs.Prelude.{ℕ, Bool, true, false, cond, not, ◌&&◌, ◌||◌, List, leb, eqb}
-use Rattle.std.proofs.Math.Option.{Option, none, get_or}
+use Rattle.std.specs.Prelude.{ℕ, Bool, true, false, cond, not, ◌&&◌, ◌||◌, List, leb, eqb, None, Option, unwrap_or}
 use Rattle.names.specs.Lists.{keep, first, last_or, same}
 use Rattle.names.specs.Names.{text, is_blank}
 use Rattle.recipe.specs.Records.{Recipe, places, is_model, is_element, is_port, is_submodel, is_factors, name, model_field, first_field, submodel_field, way, target_field}
@@ -60,19 +59,19 @@ port_named s d n = named s n (ports s d)
 
 -- "submodel's model": its definition (main where there is none, which row 5 refuses)
 unfoldable pub model_of : Recipe → ℕ → ℕ
-model_of s m = get_or (definition_named s (text (model_field s m))) main
+model_of s m = unwrap_or (definition_named s (text (model_field s m))) main
 
 -- the owner of a mark of kind 6 or 7 (main's place where there is none, which row 5 refuses)
 unfoldable pub owner_of : Recipe → ℕ → ℕ
-owner_of s r = get_or (element_named s (holder s r) (text (first_field s r))) main
+owner_of s r = unwrap_or (element_named s (holder s r) (text (first_field s r))) main
 
 -- the element that a parent or reference field f of the element e, or a factor field f of the kind 8 e, names, if it is filled
 unfoldable pub element_in : Recipe → ℕ → List ℕ → Option ℕ
-element_in s e f = elim (is_blank f) [ true ↦ none | false ↦ element_named s (holder s e) (text f) ]
+element_in s e f = elim (is_blank f) [ true ↦ None | false ↦ element_named s (holder s e) (text f) ]
 
 -- the submodel that a port or mark names (0 where there is none, which row 5 refuses)
 unfoldable pub submodel_of : Recipe → ℕ → ℕ
-submodel_of s r = get_or (submodel_named s (holder s r) (text (submodel_field s r))) 0
+submodel_of s r = unwrap_or (submodel_named s (holder s r) (text (submodel_field s r))) 0
 
 -- "names its target by element name or by port name": the record that the port or mark at r names, an element or a port
 unfoldable pub named_by : Recipe → ℕ → Option ℕ

@@ -1,23 +1,18 @@
 -- What the record at a place reads as: the case of its kind, with the offsets of its fields. Row 3 refuses it where a field does not read.
 -- Assumes nothing.
-use Rattle.std.specs.Prelude.{◌≡◌, ℕ, ◌+◌, ◌≤◌, true, cond, ◌&&◌, length, eqb}
+use Rattle.std.specs.Prelude.{◌≡◌, ℕ, ◌+◌, ◌≤◌, true, cond, ◌&&◌, length, eqb, None, Option, Some}
 use Rattle.names.specs.Names.{is_name}
 use Rattle.recipe.specs.Records.{Recipe, part_offset, kind, is_model, is_element, is_port, is_submodel, is_deletion, is_replacement, is_replaced_by, is_factors, mark_kind, next, class, submodel_offset, way, target_field}
 use Rattle.recipe.specs.Reading.{is_way, is_form}
 use Rattle.recipe.specs.declared.Way.{Way}
 use Rattle.recipe.specs.declared.Way.TheVariants.{ByElement, ByPort}
-use Rattle.recipe.specs.declared.Target.{Target}
-use Rattle.recipe.specs.declared.Target.TheVariants.{Named, Unnamed}
 use Rattle.recipe.specs.declared.ElementFields.{ElementFields}
 use Rattle.recipe.specs.declared.PortFields.{PortFields}
 use Rattle.recipe.specs.declared.SubmodelFields.{SubmodelFields}
 use Rattle.recipe.specs.declared.Mark.{Mark}
-use Rattle.recipe.specs.declared.Marked.{Marked}
-use Rattle.recipe.specs.declared.Marked.TheVariants.{Marks, Unmarked}
 use Rattle.recipe.specs.declared.FactorsFields.{FactorsFields}
+use Rattle.recipe.specs.declared.Record.{Record}
 use Rattle.recipe.specs.declared.Record.TheVariants.{Model, Element, Port, Submodel, Deletion, Replacement, ReplacedBy, Factors}
-use Rattle.recipe.specs.declared.Read.{Read}
-use Rattle.recipe.specs.declared.Read.TheVariants.{As, Refused}
 
 -- the offset in the recipe of the field that begins k bytes into the body of the record at p
 abbrev pub offset : ℕ → ℕ → ℕ
@@ -32,8 +27,8 @@ unfoldable pub way_of : Recipe → ℕ → Way
 way_of s p = cond (eqb (way s p) 0) (ByElement (target_offset s p)) (ByPort (target_offset s p))
 
 -- "way, target" read, or not
-unfoldable pub target_reading : Recipe → ℕ → Target
-target_reading s p = cond (is_way (way s p) && is_name (target_field s p)) (Named (way_of s p)) Unnamed
+unfoldable pub target_reading : Recipe → ℕ → Option Way
+target_reading s p = cond (is_way (way s p) && is_name (target_field s p)) (Some (way_of s p)) None
 
 -- kind 2: "name, class byte, parent or blank, reference or blank"
 unfoldable pub element_fields : Recipe → ℕ → ElementFields
@@ -53,29 +48,29 @@ unfoldable pub mark_fields : Recipe → ℕ → Mark
 mark_fields s p = record { owner = p + 1; submodel = offset p (submodel_offset s p); target = way_of s p }
 
 -- a mark read, or not
-unfoldable pub mark_reading : Recipe → ℕ → Marked
-mark_reading s p = cond (is_form s p) (Marks (mark_fields s p)) Unmarked
+unfoldable pub mark_reading : Recipe → ℕ → Option Mark
+mark_reading s p = cond (is_form s p) (Some (mark_fields s p)) None
 
 -- kind 8: "submodel, time factor or blank, extent factor or blank"
 unfoldable pub factors_fields : Recipe → ℕ → FactorsFields
 factors_fields s p = record { submodel = p + 1; time = offset p (part_offset s.width 8 1); extent = offset p (part_offset s.width 8 2) }
 
 -- the record at p, by its kind
-unfoldable pub record_of : Recipe → ℕ → Read
+unfoldable pub record_of : Recipe → ℕ → Option Record
 record_of s p =
-    cond (is_model s p) (As (Model (p + 1)))
-    (cond (is_element s p) (As (Element (element_fields s p)))
-    (cond (is_port s p) (As (Port (port_fields s p)))
-    (cond (is_submodel s p) (As (Submodel (submodel_fields s p)))
-    (cond (is_deletion s p) (As (Deletion (mark_fields s p)))
-    (cond (is_replacement s p) (As (Replacement (mark_fields s p)))
-    (cond (is_replaced_by s p) (As (ReplacedBy (mark_fields s p)))
-    (cond (is_factors s p) (As (Factors (factors_fields s p)))
-    Refused)))))))
+    cond (is_model s p) (Some (Model (p + 1)))
+    (cond (is_element s p) (Some (Element (element_fields s p)))
+    (cond (is_port s p) (Some (Port (port_fields s p)))
+    (cond (is_submodel s p) (Some (Submodel (submodel_fields s p)))
+    (cond (is_deletion s p) (Some (Deletion (mark_fields s p)))
+    (cond (is_replacement s p) (Some (Replacement (mark_fields s p)))
+    (cond (is_replaced_by s p) (Some (ReplacedBy (mark_fields s p)))
+    (cond (is_factors s p) (Some (Factors (factors_fields s p)))
+    None)))))))
 
 -- what the record at p reads as; refused, by row 3, where a field of it does not read
-unfoldable pub reading_of : Recipe → ℕ → Read
-reading_of s p = cond (is_form s p) (record_of s p) Refused
+unfoldable pub reading_of : Recipe → ℕ → Option Record
+reading_of s p = cond (is_form s p) (record_of s p) None
 
 -- ---- what the readers ask
 -- a record of kind k, of n bytes

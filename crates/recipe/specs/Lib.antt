@@ -4,3 +4,4 @@ pub mod Definitions
 pub mod Reaching
 pub mod Reading
 pub mod Fields
+pub mod Steps

@@ -1,8 +1,8 @@
 -- 01's "Verdicts", rows 1 to 6, and Paper 2's row 19, that judge a recipe without its tree: of each row the lowest place where it applies, if any.
 -- Assumes nothing.
-use Rattle.std.specs.Prelude.{ℕ, Bool, true, false, cond, not, ◌&&◌, ◌||◌, List, [], ◌∷◌, ◌++◌, length, leb, ltb, eqb}
-use Rattle.std.proofs.Math.Option.{Option, none, some}
-use Rattle.names.specs.Lists.{any, first, is_some, holds, last_or, same}
+use Rattle.names.specs.declared.Reason.TheVariants.{BadLength, Unreadable, Unformed, Repeated, Undeclared, Cyclic, Misscaled}
+use Rattle.std.specs.Prelude.{ℕ, Bool, true, false, cond, not, ◌&&◌, ◌||◌, List, [], ◌∷◌, ◌++◌, length, leb, ltb, eqb, None, Option, Some, is_some}
+use Rattle.names.specs.Lists.{any, first, holds, last_or, same}
 use Rattle.names.specs.Names.{underscore, text, is_name, is_name_or_blank, is_blank}
 use Rattle.names.specs.Judging.{Row, row}
 use Rattle.flat_table.specs.Classes.{is_class, parent_allowed}
@@ -12,7 +12,7 @@ use Rattle.recipe.specs.Reaching.{reaches}
 
 -- column "Place", 0: there if the test passes
 unfoldable pub at_start : Bool → Option ℕ
-at_start b = cond b (some 0) none
+at_start b = cond b (Some 0) None
 
 -- row 1, "over 16,384 bytes": the most bytes of a recipe
 unfoldable pub most_bytes : ℕ
@@ -24,7 +24,7 @@ fault₁ s = at_start (eqb (length s.bytes) 0 || ltb most_bytes (length s.bytes)
 
 -- row 2: "kind unknown, body cut short, or first record not kind 1"; "2 stops at its own record"
 unfoldable pub fault₂ : Recipe → Option ℕ
-fault₂ s = cond (ltb (stop s) (length s.bytes)) (some (stop s)) none
+fault₂ s = cond (ltb (stop s) (length s.bytes)) (Some (stop s)) None
 
 -- "A submodel's name may not end with an underscore"
 unfoldable pub ends_with_underscore : List ℕ → Bool
@@ -73,13 +73,13 @@ fault₄ s = first (λ p. any (repeats s p) (places s)) (places s)
 
 -- row 5: the element at q, by its class and place, may be the parent of the one at e
 unfoldable pub is_parent : Recipe → ℕ → ℕ → Bool
-is_parent s e q = ltb q e && parent_allowed (class s e) (some (class s q))
+is_parent s e q = ltb q e && parent_allowed (class s e) (Some (class s q))
 
 -- row 5: "parent against the class table or not an earlier element of the definition"
 unfoldable pub is_parent_fault : Recipe → ℕ → Bool
 is_parent_fault s e =
     cond (is_blank (parent_field s e))
-    (not (parent_allowed (class s e) none))
+    (not (parent_allowed (class s e) None))
     (not (holds (is_parent s e) (element_in s e (parent_field s e))))
 
 -- row 5: "blank-submodel port with way 1 or unknown element"
@@ -134,8 +134,8 @@ fault₆ s = first (λ d. reaches s d d) (definitions s)
 -- ---- the order of judging
 -- rows 1 to 3, which look at each record alone
 abbrev pub form_rows : Recipe → List Row
-form_rows s = row 1 (fault₁ s) ∷ row 2 (fault₂ s) ∷ row 3 (fault₃ s) ∷ []
+form_rows s = row BadLength (fault₁ s) ∷ row Unreadable (fault₂ s) ∷ row Unformed (fault₃ s) ∷ []
 
 -- rows 4, 5, 19 and 6, which look at what the records name
 abbrev pub naming_rows : Recipe → List Row
-naming_rows s = row 4 (fault₄ s) ∷ row 5 (fault₅ s) ∷ row 19 (fault₁₉ s) ∷ row 6 (fault₆ s) ∷ []
+naming_rows s = row Repeated (fault₄ s) ∷ row Undeclared (fault₅ s) ∷ row Misscaled (fault₁₉ s) ∷ row Cyclic (fault₆ s) ∷ []

@@ -1,29 +1,21 @@
 // Recipes: their records, and the refusals 1 to 3.
-// For the floors above, which name the width w of names: length_fault, reading_stop and first_unformed (rows 1 to 3), is_readable and read_record;
-// what is asked of a kind byte k: record_length, length_by_kind, is_port, is_deletion, is_replaced_by, is_owned, is_mark, is_pointer, submodel_offset; wide, of a number in a table.
+// For the floors above, which name the width w of names: length_fault, first_unreadable and first_unformed (rows 1 to 3), is_readable and read_record;
+// Records, the places of the records one after the other; what is asked of a kind byte k: record_length, length_by_kind, is_port, is_deletion, is_replaced_by, is_owned, is_mark, is_pointer, submodel_offset; wide, of a number in a table.
 #![tactic(auto)]
 
 ghost use Rattle.std.specs.Prelude.{◌≡◌, true, ℕ, ◌+◌, ◌*◌, ◌<◌, ◌≤◌, length};
 ghost use Rattle.names.specs.Names.{field_of};
-ghost use Rattle.names.specs.Scans.{found_of};
 ghost use Rattle.recipe.specs.Records.{recipe_at, body_of, names_in, singles_in, is_known, record_length, port_kind, deletion_kind, replaced_by_kind, owned_kind, mark_kind, pointer_kind, submodel_part, part_offset, is_readable, stop, field};
-ghost use Rattle.recipe.specs.Reading.{fault₁, fault₃};
+ghost use Rattle.recipe.specs.Reading.{fault₁, fault₂, fault₃};
 ghost use Rattle.recipe.specs.Fields.{TargetAt, RecordAt, MarkAt, target_reading, mark_reading, reading_of};
 
-use names::{Field, Found};
+use names::Field;
 
 // How a target is named: by element name or by port name, with the offset of that name in the recipe.
 #[derive(Clone, Copy)]
 pub enum Way {
     ByElement(usize),
     ByPort(usize),
-}
-
-// What a way byte and the name behind it read as.
-#[derive(Clone, Copy)]
-pub enum Target {
-    Named(Way),
-    Unnamed,
 }
 
 // The fields of an element: their offsets, and the class.
@@ -58,13 +50,6 @@ pub struct Mark {
     pub target: Way,
 }
 
-// What the fields of a mark read as.
-#[derive(Clone, Copy)]
-pub enum Marked {
-    Marks(Mark),
-    Unmarked,
-}
-
 // The fields of a kind 8.
 #[derive(Clone, Copy)]
 pub struct FactorsFields {
@@ -86,13 +71,6 @@ pub enum Record {
     Factors(FactorsFields),
 }
 
-// What a record reads as: itself, or it is refused by row 3.
-#[derive(Clone, Copy)]
-pub enum Read {
-    As(Record),
-    Refused,
-}
-
 // The most bytes of a recipe.
 const MOST_BYTES: usize = 16384;
 
@@ -104,13 +82,13 @@ pub fn wide(x: u16) -> usize
 }
 
 // Whether row 1 refuses the recipe, at its start: it is empty, or over 16,384 bytes. The name width does not matter.
-pub fn length_fault(s: &[u8]) -> Found
-    ensures { (w : ℕ) → result ≡ found_of (fault₁ (recipe_at w s.now)) }
+pub fn length_fault(s: &[u8]) -> Option<usize>
+    ensures { (w : ℕ) → result ≡ fault₁ (recipe_at w s.now) }
 {
     if (s.len() == 0) | (MOST_BYTES < s.len()) {
-        return Found::At(0);
+        return Some(0);
     }
-    Found::Nothing
+    None
 }
 
 // How many name fields a record of kind k has.
@@ -243,7 +221,7 @@ pub fn is_readable(s: &[u8], w: usize, p: usize) -> bool
 }
 
 // Where the reading of a recipe stops: at its end, or at the first record that row 2 refuses.
-pub fn reading_stop(s: &[u8], w: usize) -> usize
+fn reading_stop(s: &[u8], w: usize) -> usize
     requires { w ≤ 65536 }
     ensures { result ≡ stop (recipe_at w s.now) }
 {
@@ -252,6 +230,57 @@ pub fn reading_stop(s: &[u8], w: usize) -> usize
         p += record_length(s[p], w);
     }
     p
+}
+
+// The first record that row 2 refuses.
+pub fn first_unreadable(s: &[u8], w: usize) -> Option<usize>
+    requires { w ≤ 65536 }
+    ensures { result ≡ fault₂ (recipe_at w s.now) }
+{
+    let stop = reading_stop(s, w);
+    (stop < s.len()).then_some(stop)
+}
+
+// The places of the records of a readable recipe, in order.
+#[derive(Clone, Copy)]
+pub struct Records<'a> {
+    pub bytes: &'a [u8],
+    pub width: usize,
+    pub at: usize,
+}
+
+impl<'a> Iterator for Records<'a> {
+    type Item = usize;
+
+    ghost use Rattle.recipe.specs.Steps.{StepsTo, StepFits, bytes_left};
+
+    ghost can_next = { StepFits };
+
+    ghost next_gives = { StepsTo };
+
+    ghost remaining = { bytes_left };
+
+    fn next(&mut self) -> Option<usize> {
+        let p = self.at;
+        if p >= self.bytes.len() {
+            return None;
+        }
+        self.at = p + record_length(self.bytes[p], self.width);
+        Some(p)
+    }
+}
+
+impl<'a> Records<'a> {
+    // Those of a recipe of name width w, from the first on.
+    pub fn of(s: &'a [u8], w: usize) -> Records<'a>
+        ensures { (result.bytes.now ≡ s.now) × ((result.width ≡ w) × (result.at ≡ 0)) }
+    {
+        Records {
+            bytes: s,
+            width: w,
+            at: 0,
+        }
+    }
 }
 
 // What the name field k bytes into the body of the record at p reads as.
@@ -263,52 +292,52 @@ fn field_at(s: &[u8], w: usize, p: usize, k: usize) -> Field
 }
 
 // The way and the target of the port or mark at p, whose submodel begins k bytes into its body.
-fn read_target(s: &[u8], w: usize, p: usize, k: usize) -> Target
+fn read_target(s: &[u8], w: usize, p: usize, k: usize) -> Option<Way>
     requires { TargetAt (recipe_at w s.now) p k }
     ensures { result ≡ target_reading (recipe_at w s.now) p }
 {
     let b = s[p + 1 + (k + w)];
     if b > 1 {
-        return Target::Unnamed;
+        return None;
     }
     let Field::Name(_) = field_at(s, w, p, k + w + 1) else {
-        return Target::Unnamed;
+        return None;
     };
     let at = p + 1 + (k + w + 1);
     if b == 0 {
-        return Target::Named(Way::ByElement(at));
+        return Some(Way::ByElement(at));
     }
-    Target::Named(Way::ByPort(at))
+    Some(Way::ByPort(at))
 }
 
-fn read_model(s: &[u8], w: usize, p: usize) -> Read
+fn read_model(s: &[u8], w: usize, p: usize) -> Option<Record>
     requires { RecordAt (recipe_at w s.now) p 1 (1 + w) }
     ensures { result ≡ reading_of (recipe_at w s.now) p }
 {
     let Field::Name(_) = field_at(s, w, p, 0) else {
-        return Read::Refused;
+        return None;
     };
-    Read::As(Record::Model(p + 1))
+    Some(Record::Model(p + 1))
 }
 
-fn read_element(s: &[u8], w: usize, p: usize) -> Read
+fn read_element(s: &[u8], w: usize, p: usize) -> Option<Record>
     requires { RecordAt (recipe_at w s.now) p 2 (2 + 3 * w) }
     ensures { result ≡ reading_of (recipe_at w s.now) p }
 {
     let Field::Name(_) = field_at(s, w, p, 0) else {
-        return Read::Refused;
+        return None;
     };
     let class = s[p + 1 + w];
     if !flat_table::is_class(class) {
-        return Read::Refused;
+        return None;
     }
     let (Field::Name(_) | Field::Blank) = field_at(s, w, p, w + 1) else {
-        return Read::Refused;
+        return None;
     };
     let (Field::Name(_) | Field::Blank) = field_at(s, w, p, w + (1 + w)) else {
-        return Read::Refused;
+        return None;
     };
-    Read::As(Record::Element(ElementFields {
+    Some(Record::Element(ElementFields {
         name: p + 1,
         class: class,
         parent: p + 1 + (w + 1),
@@ -316,20 +345,20 @@ fn read_element(s: &[u8], w: usize, p: usize) -> Read
     }))
 }
 
-fn read_port(s: &[u8], w: usize, p: usize) -> Read
+fn read_port(s: &[u8], w: usize, p: usize) -> Option<Record>
     requires { RecordAt (recipe_at w s.now) p 3 (2 + 3 * w) }
     ensures { result ≡ reading_of (recipe_at w s.now) p }
 {
     let Field::Name(_) = field_at(s, w, p, 0) else {
-        return Read::Refused;
+        return None;
     };
     let (Field::Name(_) | Field::Blank) = field_at(s, w, p, w) else {
-        return Read::Refused;
+        return None;
     };
-    let Target::Named(way) = read_target(s, w, p, w) else {
-        return Read::Refused;
+    let Some(way) = read_target(s, w, p, w) else {
+        return None;
     };
-    Read::As(Record::Port(PortFields {
+    Some(Record::Port(PortFields {
         name: p + 1,
         submodel: p + 1 + w,
         target: way,
@@ -337,40 +366,40 @@ fn read_port(s: &[u8], w: usize, p: usize) -> Read
 }
 
 // A submodel, whose name may not end with an underscore.
-fn read_submodel(s: &[u8], w: usize, p: usize) -> Read
+fn read_submodel(s: &[u8], w: usize, p: usize) -> Option<Record>
     requires { RecordAt (recipe_at w s.now) p 4 (1 + 2 * w) }
     ensures { result ≡ reading_of (recipe_at w s.now) p }
 {
     let Field::Name(n) = field_at(s, w, p, 0) else {
-        return Read::Refused;
+        return None;
     };
     if s[p + n] == 95 {
-        return Read::Refused;
+        return None;
     }
     let Field::Name(_) = field_at(s, w, p, w) else {
-        return Read::Refused;
+        return None;
     };
-    Read::As(Record::Submodel(SubmodelFields {
+    Some(Record::Submodel(SubmodelFields {
         name: p + 1,
         model: p + 1 + w,
     }))
 }
 
 // The factors of a submodel.
-fn read_factors(s: &[u8], w: usize, p: usize) -> Read
+fn read_factors(s: &[u8], w: usize, p: usize) -> Option<Record>
     requires { RecordAt (recipe_at w s.now) p 8 (1 + 3 * w) }
     ensures { result ≡ reading_of (recipe_at w s.now) p }
 {
     let Field::Name(_) = field_at(s, w, p, 0) else {
-        return Read::Refused;
+        return None;
     };
     let (Field::Name(_) | Field::Blank) = field_at(s, w, p, w) else {
-        return Read::Refused;
+        return None;
     };
     let (Field::Name(_) | Field::Blank) = field_at(s, w, p, w + w) else {
-        return Read::Refused;
+        return None;
     };
-    Read::As(Record::Factors(FactorsFields {
+    Some(Record::Factors(FactorsFields {
         submodel: p + 1,
         time: p + 1 + w,
         extent: p + 1 + (w + w),
@@ -378,21 +407,21 @@ fn read_factors(s: &[u8], w: usize, p: usize) -> Read
 }
 
 // The mark at p, of kind k.
-fn read_mark(s: &[u8], w: usize, p: usize, k: u8) -> Marked
+fn read_mark(s: &[u8], w: usize, p: usize, k: u8) -> Option<Mark>
     requires { MarkAt (recipe_at w s.now) p k }
     ensures { result ≡ mark_reading (recipe_at w s.now) p }
 {
     let o = submodel_offset(k, w);
     let Field::Name(_) = field_at(s, w, p, 0) else {
-        return Marked::Unmarked;
+        return None;
     };
     let Field::Name(_) = field_at(s, w, p, o) else {
-        return Marked::Unmarked;
+        return None;
     };
-    let Target::Named(way) = read_target(s, w, p, o) else {
-        return Marked::Unmarked;
+    let Some(way) = read_target(s, w, p, o) else {
+        return None;
     };
-    Marked::Marks(Mark {
+    Some(Mark {
         owner: p + 1,
         submodel: p + 1 + o,
         target: way,
@@ -400,7 +429,7 @@ fn read_mark(s: &[u8], w: usize, p: usize, k: u8) -> Marked
 }
 
 // The record at p, which row 2 does not refuse.
-pub fn read_record(s: &[u8], w: usize, p: usize) -> Read
+pub fn read_record(s: &[u8], w: usize, p: usize) -> Option<Record>
     requires { is_readable (recipe_at w s.now) p ≡ true }
     ensures { result ≡ reading_of (recipe_at w s.now) p }
 {
@@ -421,31 +450,31 @@ pub fn read_record(s: &[u8], w: usize, p: usize) -> Read
         return read_factors(s, w, p);
     }
     if !is_mark(k) {
-        return Read::Refused;
+        return None;
     }
-    let Marked::Marks(m) = read_mark(s, w, p, k) else {
-        return Read::Refused;
+    let Some(m) = read_mark(s, w, p, k) else {
+        return None;
     };
     if is_deletion(k) {
-        return Read::As(Record::Deletion(m));
+        return Some(Record::Deletion(m));
     }
     if is_replaced_by(k) {
-        return Read::As(Record::ReplacedBy(m));
+        return Some(Record::ReplacedBy(m));
     }
-    Read::As(Record::Replacement(m))
+    Some(Record::Replacement(m))
 }
 
 // The first record that row 3 refuses.
-pub fn first_unformed(s: &[u8], w: usize) -> Found
+pub fn first_unformed(s: &[u8], w: usize) -> Option<usize>
     requires { (w ≤ 65536) × (stop (recipe_at w s.now) ≡ length s.now) }
-    ensures { result ≡ found_of (fault₃ (recipe_at w s.now)) }
+    ensures { result ≡ fault₃ (recipe_at w s.now) }
 {
     let mut p = 0;
     while p < s.len() {
-        let Read::As(_) = read_record(s, w, p) else {
-            return Found::At(p);
+        let Some(_) = read_record(s, w, p) else {
+            return Some(p);
         };
         p += record_length(s[p], w);
     }
-    Found::Nothing
+    None
 }

@@ -1,8 +1,8 @@
 -- What a look-up in the index finds: the definition, port, element or submodel of a name.
 -- Assumes nothing.
+use Rattle.std.specs.Prelude.{None, Option, Some, option_map}
 use mathlib.Core.Path.{◌≡◌, refl, sym, ap, ◌∙◌}
 use mathlib.Core.Bool.{Bool, true, false, not, ◌&&◌, ◌||◌}
-use mathlib.Core.Option.{Option, none, some, map}
 use mathlib.Core.List.{List, ◌∷◌}
 use Prim.Native.Nat.{ℕ, zero, suc, ◌+◌, ◌*◌, ◌≤◌, ◌<◌}
 use native.Mathlib.Omega.{arith}
@@ -12,11 +12,10 @@ use lib.Dec.{eqb}
 use borrow.Author.Tests.{eqb-true, eq-eqb}
 use Rattle.names.specs.Lists.{In, keep, first, same}
 use Rattle.names.specs.Names.{text, field_at}
-use Rattle.names.specs.Scans.{scan, found_of}
-use Rattle.names.specs.declared.Found.TheVariants.{At, Nothing}
+use Rattle.names.specs.Scans.{scan}
 use Rattle.names.proofs.Tests.{by_cases, not-both, both, and_left, and_right}
 use Rattle.names.proofs.Lists.{in-keep, keep-in, none_first, some_first, first-none, first-is, same_true, eq-same, first-keep}
-use Rattle.names.proofs.Scans.{scan-same, scan-below, found_some, found_nothing}
+use Rattle.names.proofs.Scans.{scan-same, scan-below}
 use Rattle.recipe.specs.Records.{Recipe, kind, places, is_model, is_element, is_port, is_submodel, first_field, name}
 use Rattle.recipe.specs.Definitions.{definitions, holder, records_of, elements, submodels, ports, named, definition_named, element_named, submodel_named, port_named}
 use Rattle.recipe.proofs.Rows.{first-name}
@@ -28,21 +27,21 @@ use Rattle.record_index.proofs.Keys.{nothing, same_keys, same-fields}
 use Rattle.record_index.proofs.Repeats.{first-length, one_entry, entry, numbered, entry-is}
 
 -- ---- what an answer says of the look-up
-pub answer-some : (o : Option ℕ) {a : Answer} → a ≡ answer_of o → a.missing ≡ false → o ≡ some a.place
+pub answer-some : (o : Option ℕ) {a : Answer} → a ≡ answer_of o → a.missing ≡ false → o ≡ Some a.place
 unfolding answer_of
-answer-some none e m = not-both (ap (λ (x : Answer). x.missing) e) m
-answer-some (some p) e m = ap some (sym (ap (λ (x : Answer). x.place) e))
+answer-some None e m = not-both (ap (λ (x : Answer). x.missing) e) m
+answer-some (Some p) e m = ap Some (sym (ap (λ (x : Answer). x.place) e))
 
-pub answer-none : (o : Option ℕ) {a : Answer} → a ≡ answer_of o → a.missing ≡ true → o ≡ none
+pub answer-none : (o : Option ℕ) {a : Answer} → a ≡ answer_of o → a.missing ≡ true → o ≡ None
 unfolding answer_of
-answer-none none e m = refl
-answer-none (some p) e m = not-both m (ap (λ (x : Answer). x.missing) e)
+answer-none None e m = refl
+answer-none (Some p) e m = not-both m (ap (λ (x : Answer). x.missing) e)
 
-some-answer : (o : Option ℕ) {p : ℕ} → o ≡ some p → record { missing = false; place = p } ≡ answer_of o
+some-answer : (o : Option ℕ) {p : ℕ} → o ≡ Some p → record { missing = false; place = p } ≡ answer_of o
 unfolding answer_of
 some-answer o e = rw e
 
-pub none-answer : (o : Option ℕ) → o ≡ none → record { missing = true; place = 0 } ≡ answer_of o
+pub none-answer : (o : Option ℕ) → o ≡ None → record { missing = true; place = 0 } ≡ answer_of o
 unfolding answer_of
 none-answer o e = rw e
 
@@ -117,30 +116,30 @@ module _ {s : Recipe} {at fields keys index : List ℕ} (x : IndexRequires s at 
   abbrev gives : Option ℕ
   gives = scan (λ i. same (entry s x.indexed i) (k ∷ f)) (length at)
 
-  entry-scan : first hits (places s) ≡ map (numbered s x.indexed) gives
+  entry-scan : first hits (places s) ≡ option_map (numbered s x.indexed) gives
   entry-scan =
       first-numbered hits (places s)
       ∙ rw (x.indexed.listed, ek)
-      (ap (map (numbered s x.indexed))
+      (ap (option_map (numbered s x.indexed))
       (scan-same (λ i. hits (numbered s x.indexed i)) (λ i. same (entry s x.indexed i) (key_of t f ∷ f)) (length (places s))
       (λ i h.
       let p = numbered s x.indexed i in
       sym (ap (λ (l : List ℕ). same l (key_of t f ∷ f)) (entry-is s x.indexed i h) ∙ same_keys (tag_at s p) t (first_field s p) f))))
 
-  pub sought-none : Nothing ≡ found_of gives → record { missing = true; place = 0 } ≡ answered
+  pub sought-none : None ≡ gives → record { missing = true; place = 0 } ≡ answered
   sought-none e =
       none_here
       (λ p i.
       let j = (in-keep (is_of s q.kind q.definition) (places s) p i).0 in
-      let o = none_first hits (places s) p (entry-scan ∙ ap (map (numbered s x.indexed)) (found_nothing e)) j in
+      let o = none_first hits (places s) p (entry-scan ∙ ap (option_map (numbered s x.indexed)) (sym e)) j in
       sym (same-named p j) ∙ (rw (eq-eqb (tag_at s p) t (of-tag p i).1) at o))
 
-  module _ {i : ℕ} (e : At i ≡ found_of gives) where
+  module _ {i : ℕ} (e : Some i ≡ gives) where
     pub sought-low : i < length at
-    sought-low = scan-below (λ i. same (entry s x.indexed i) (k ∷ f)) (length at) i (found_some e)
+    sought-low = scan-below (λ i. same (entry s x.indexed i) (k ∷ f)) (length at) i (sym e)
 
-    first-hit : first hits (places s) ≡ some (get_or at i 0)
-    first-hit = entry-scan ∙ (ap (map (numbered s x.indexed)) (found_some e) ∙ ap (λ (l : List ℕ). some (get_or l i 0)) (sym x.indexed.listed))
+    first-hit : first hits (places s) ≡ Some (get_or at i 0)
+    first-hit = entry-scan ∙ (ap (option_map (numbered s x.indexed)) (sym e) ∙ ap (λ (l : List ℕ). Some (get_or l i 0)) (sym x.indexed.listed))
 
     found : In (get_or at i 0) (places s) × (tag_at s (get_or at i 0) ≡ t) × (name s (get_or at i 0) ≡ text f)
     found =

@@ -1,9 +1,9 @@
 -- The records of a recipe by number: the places as a list, one more place at a time.
 -- Assumes nothing.
+use Rattle.std.specs.Prelude.{Some, option_map}
 use mathlib.Core.Path.{◌≡◌, refl, sym, ap, ◌∙◌}
 use mathlib.Core.Logic.{inl, inr}
 use mathlib.Core.Bool.{Bool, true}
-use mathlib.Core.Option.{some, map}
 use mathlib.Core.List.{List, [], ◌∷◌}
 use Prim.Native.Nat.{ℕ, zero, suc, ◌+◌, ◌≤◌, ◌<◌}
 use native.Mathlib.Omega.{arith}
@@ -45,7 +45,7 @@ first-same t u (x ∷ xs) h =
 
 -- the first of a list, by number
 first-numbered-from : (t : ℕ → Bool) (zs : List ℕ) (i : ℕ) (xs : List ℕ) → drop i zs ≡ xs
-    → first t xs ≡ map (λ k. get_or zs k 0) (first_from (λ k. t (get_or zs k 0)) i (length xs))
+    → first t xs ≡ option_map (λ k. get_or zs k 0) (first_from (λ k. t (get_or zs k 0)) i (length xs))
 unfolding first_from
 first-numbered-from t zs i [] e = refl
 first-numbered-from t zs i (x ∷ xs) e =
@@ -54,10 +54,10 @@ first-numbered-from t zs i (x ∷ xs) e =
     let o : suc i ≡ i + 1 = omega arith in
     let d : drop (suc i) zs ≡ xs = ap (λ (k : ℕ). drop k zs) o ∙ n.2 in
     by_cases (t x)
-    (λ h. rw (h, first, g, h) (ap some (sym g)))
+    (λ h. rw (h, first, g, h) (ap Some (sym g)))
     (λ h. rw (h, first, g, h) (first-numbered-from t zs (suc i) xs d))
 
-pub first-numbered : (t : ℕ → Bool) (xs : List ℕ) → first t xs ≡ map (λ k. get_or xs k 0) (scan (λ k. t (get_or xs k 0)) (length xs))
+pub first-numbered : (t : ℕ → Bool) (xs : List ℕ) → first t xs ≡ option_map (λ k. get_or xs k 0) (scan (λ k. t (get_or xs k 0)) (length xs))
 unfolding scan
 first-numbered t xs = first-numbered-from t xs 0 xs refl
 

@@ -1,8 +1,8 @@
 -- Row 4 by record number: the first whose key and first field stand earlier too; where it refuses none, a key and a first field are those of one record.
 -- Assumes nothing.
+use Rattle.std.specs.Prelude.{None, Some, option_map}
 use mathlib.Core.Path.{◌≡◌, sym, ap, ◌∙◌}
 use mathlib.Core.Bool.{true, false, ◌&&◌}
-use mathlib.Core.Option.{none, some, map}
 use mathlib.Core.List.{List, ◌∷◌, ◌++◌}
 use Prim.Native.Nat.{ℕ, ◌+◌, ◌≤◌, ◌<◌}
 use native.Mathlib.Omega.{arith}
@@ -33,7 +33,7 @@ module _ (s : Recipe) where
       length-take-le s.width (drop (p + 1 + 0) s.bytes) (omega (arith, length-drop (p + 1 + 0) s.bytes))
 
   -- the key and the first field of two records, by their names
-  pub same_entries : fault₃ s ≡ none → (q p : ℕ) → In q (places s) → In p (places s) → (q ≡ p → ⊥)
+  pub same_entries : fault₃ s ≡ None → (q p : ℕ) → In q (places s) → In p (places s) → (q ≡ p → ⊥)
       → same (key_of (tag_at s q) (first_field s q) ∷ first_field s q) (key_of (tag_at s p) (first_field s p) ∷ first_field s p) ≡ sharing s q p && same (name s q) (name s p)
   unfolding name
   same_entries h q p i j n =
@@ -41,7 +41,7 @@ module _ (s : Recipe) where
       ∙ rw (same-tags s q p i j n, same-fields (first_field s q) (first_field s p) (first-name s h q i) (first-name s h p j) (first-length q i ∙ sym (first-length p j)))
 
   -- row 4 refuses the later of two records with one space and one name
-  clash : fault₄ s ≡ none → (q p : ℕ) → In q (places s) → In p (places s) → q < p → tag_at s q ≡ tag_at s p → name s q ≡ name s p → ⊥
+  clash : fault₄ s ≡ None → (q p : ℕ) → In q (places s) → In p (places s) → q < p → tag_at s q ≡ tag_at s p → name s q ≡ name s p → ⊥
   unfolding fault₄ repeats
   clash h q p i j l t e =
       let no : repeats s p q ≡ false = not-any (repeats s p) (places s) q (none_first (λ r. any (repeats s r) (places s)) (places s) p h j) i in
@@ -49,7 +49,7 @@ module _ (s : Recipe) where
       let yes : repeats s p q ≡ true = both (both (lt-ltb q p l) (eq-same e)) one in
       not-both yes no
 
-  pub one_entry : fault₄ s ≡ none → (q p : ℕ) → In q (places s) → In p (places s) → tag_at s q ≡ tag_at s p → name s q ≡ name s p → q ≡ p
+  pub one_entry : fault₄ s ≡ None → (q p : ℕ) → In q (places s) → In p (places s) → tag_at s q ≡ tag_at s p → name s q ≡ name s p → q ≡ p
   one_entry h q p i j t e = three q p (λ l. absurd (clash h q p i j l t e)) (λ l. l) (λ l. absurd (clash h p q j i l (sym t) (sym e)))
 
   module _ {at fields keys index : List ℕ} (x : RecordIndex s at fields keys index) where
@@ -95,19 +95,19 @@ module _ (s : Recipe) where
         (both (both (lt-ltb q p (numbered-less s r.0 i r.1 h)) (and_right (sharing s q p) (same (name s q) (name s p)) t)) (and_left (sharing s q p) (same (name s q) (name s p)) t)))
 
     -- row 4: the record whose number the index gives
-    fault-four : fault₄ s ≡ map numbered (scan (is_repeat entry) (length at))
+    fault-four : fault₄ s ≡ option_map numbered (scan (is_repeat entry) (length at))
     unfolding fault₄
     fault-four =
         first-numbered (λ p. any (repeats s p) (places s)) (places s)
         ∙ rw x.listed
-        (ap (map numbered) (scan-same (λ i. any (repeats s (numbered i)) (places s)) (is_repeat entry) (length (places s)) repeat-is))
+        (ap (option_map numbered) (scan-same (λ i. any (repeats s (numbered i)) (places s)) (is_repeat entry) (length (places s)) repeat-is))
 
-    pub fault-four-some : {i : ℕ} → scan (is_repeat entry) (length at) ≡ some i → (i < length at) × (fault₄ s ≡ some (get_or at i 0))
+    pub fault-four-some : {i : ℕ} → scan (is_repeat entry) (length at) ≡ Some i → (i < length at) × (fault₄ s ≡ Some (get_or at i 0))
     fault-four-some {i} e =
-        (scan-below (is_repeat entry) (length at) i e, fault-four ∙ (ap (map numbered) e ∙ ap (λ (l : List ℕ). some (get_or l i 0)) (sym x.listed)))
+        (scan-below (is_repeat entry) (length at) i e, fault-four ∙ (ap (option_map numbered) e ∙ ap (λ (l : List ℕ). Some (get_or l i 0)) (sym x.listed)))
 
-    pub fault-four-none : scan (is_repeat entry) (length at) ≡ none → fault₄ s ≡ none
-    fault-four-none e = fault-four ∙ ap (map numbered) e
+    pub fault-four-none : scan (is_repeat entry) (length at) ≡ None → fault₄ s ≡ None
+    fault-four-none e = fault-four ∙ ap (option_map numbered) e
 
 -- a table of single cells
 pub cell-first : (t : List ℕ) (i : ℕ) {r : ℕ} → r ≡ get_or t (i + 0) 0 → r ≡ get_or t i 0

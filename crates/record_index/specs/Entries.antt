@@ -1,9 +1,7 @@
 -- The key of a record, so that two records have one key and one first field where row 4 refuses the later; the index of the names, and what is sought in it.
 -- Assumes nothing.
-use Rattle.std.specs.Prelude.{ℕ, ◌+◌, ◌*◌, ◌%◌, ◌≤◌, ◌<◌, ◌≡◌, Bool, true, cond, not, ◌&&◌, ◌||◌, List, length, get_or, eqb}
-use Rattle.std.proofs.Math.Option
-use Rattle.std.proofs.Math.Option.{Option, none}
-use Rattle.names.specs.Lists.{keep, is_some}
+use Rattle.std.specs.Prelude.{ℕ, ◌+◌, ◌*◌, ◌%◌, ◌≤◌, ◌<◌, ◌≡◌, Bool, true, cond, not, ◌&&◌, ◌||◌, List, length, get_or, eqb, None, Option, is_some, unwrap_or}
+use Rattle.names.specs.Lists.{keep}
 use Rattle.names.specs.Names.{is_name, field_at}
 use Rattle.name_index.specs.declared.Layout.{Layout}
 use Rattle.name_index.specs.Hash.{hash_of}
@@ -51,7 +49,7 @@ pub record Entered (s : Recipe) (fields keys : List ℕ) : Type 0 where
 pub record RecordIndex (s : Recipe) (at fields keys index : List ℕ) : Type 0 where
   pub narrow : s.width ≤ 64
   pub short : length s.bytes ≤ 16384
-  pub formed : fault₃ s ≡ none
+  pub formed : fault₃ s ≡ None
   pub listed : at ≡ places s
   pub entered : Entered s fields keys
   pub indexes : Indexes keys fields (layout s.width) (length (places s)) index
@@ -59,7 +57,7 @@ pub record RecordIndex (s : Recipe) (at fields keys index : List ℕ) : Type 0 w
 -- that of a recipe that row 4 does not refuse either
 pub record IndexRequires (s : Recipe) (at fields keys index : List ℕ) : Type 0 where
   pub indexed : RecordIndex s at fields keys index
-  pub once : fault₄ s ≡ none
+  pub once : fault₄ s ≡ None
 
 -- a record of kind k, of definition d unless it is a model
 unfoldable pub is_of : Recipe → ℕ → ℕ → ℕ → Bool
@@ -79,4 +77,4 @@ pub record SoughtIn (s : Recipe) (q : Sought) : Type 0 where
 
 -- the code's answer to a look-up: place 0 where there is none
 unfoldable pub answer_of : Option ℕ → Answer
-answer_of o = record { missing = not (is_some o); place = Option.get_or o 0 }
+answer_of o = record { missing = not (is_some o); place = unwrap_or o 0 }

@@ -3,17 +3,14 @@
 #![tactic(auto)]
 
 ghost use Rattle.std.specs.Prelude.{◌≡◌, ◌+◌, ◌*◌, ◌≤◌, ◌<◌, length, take};
-ghost use Rattle.std.proofs.Math.Option.{none};
 ghost use Rattle.names.specs.Lists.{In};
 ghost use Rattle.names.specs.Names.{field_at, text};
-ghost use Rattle.names.specs.Scans.{found_of};
 ghost use Rattle.recipe.specs.Records.{recipe_at, places};
 ghost use Rattle.recipe.specs.Reading.{fault₃, fault₄};
 ghost use Rattle.shadow.specs.Columns.{Numbered};
 ghost use Rattle.record_index.specs.Entries.{tag_of, key_of, key_at, Entered, RecordIndex, IndexRequires, record_named, SoughtIn, answer_of};
 
 use name_index::Layout;
-use names::Found;
 
 // How many numbers a name has in a key.
 const NAME_NUMBERS: u32 = 32768;
@@ -112,7 +109,7 @@ pub fn index_names(
     keys: &mut [u32],
     index: &mut [u16],
 ) -> usize
-    requires { Numbered (recipe_at w s.now) t.now × ((fault₃ (recipe_at w s.now) ≡ none) × ((1536 ≤ length at.old) × ((16384 ≤ length fields.old) × ((1536 ≤ length keys.old) × (1536 ≤ length index.old))))) }
+    requires { Numbered (recipe_at w s.now) t.now × ((fault₃ (recipe_at w s.now) ≡ None) × ((1536 ≤ length at.old) × ((16384 ≤ length fields.old) × ((1536 ≤ length keys.old) × (1536 ≤ length index.old))))) }
     ensures { (result ≤ 1536) × RecordIndex (recipe_at w s.now) (take result at.new) fields.new keys.new index.new }
 {
     let n = enter_records(s, w, t, at, fields, keys);
@@ -133,19 +130,19 @@ pub fn first_repeated(
     fields: &[u8],
     keys: &[u32],
     index: &[u16],
-) -> Found
+) -> Option<usize>
     requires { RecordIndex (recipe_at w s.now) at.now fields.now keys.now index.now }
-    ensures { result ≡ found_of (fault₄ (recipe_at w s.now)) }
+    ensures { result ≡ fault₄ (recipe_at w s.now) }
 {
     let l = Layout {
         first: 0,
         stride: w,
         width: w,
     };
-    let Found::At(i) = name_index::first_repeat(fields, l, at.len(), keys, index) else {
-        return Found::Nothing;
+    let Some(i) = name_index::first_repeat(fields, l, at.len(), keys, index) else {
+        return None;
     };
-    Found::At(shadow::cell(at, i, 0))
+    Some(shadow::cell(at, i, 0))
 }
 
 // Looks a record up.
@@ -168,7 +165,7 @@ pub fn find_record(
     };
     let f = names::field_at(s, q.name, w);
     let k = key(tag(q.kind, 0, q.definition), f);
-    let Found::At(i) = name_index::find(fields, l, at.len(), keys, index, k, f) else {
+    let Some(i) = name_index::find(fields, l, at.len(), keys, index, k, f) else {
         return Answer {
             missing: true,
             place: 0,

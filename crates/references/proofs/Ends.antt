@@ -1,12 +1,11 @@
 -- A chain followed by the column of steps: where it is after some of its five steps.
 -- Assumes nothing.
-use Prim.Native.Nat.{◌*◌, ◌+◌, ◌-◌, ◌<◌, ◌≤◌, suc, zero, ℕ}
+use Rattle.std.specs.Prelude.{None}
+use Prim.Native.Nat.{◌*◌, ◌+◌, ◌-◌, ◌≤◌, suc, zero, ℕ}
 use borrow.Author.Tests.{eq-eqb, ne_eqb}
 use lib.ListN.{get_or, length}
 use mathlib.Core.List.{List}
-use mathlib.Core.Option.{none}
 use mathlib.Core.Path.{◌∙◌, ◌≡◌, ap, refl, sym}
-use native.Mathlib.Numerals.{sub-one}
 use native.Mathlib.Omega.{arith}
 use Rattle.names.specs.Lists.{In}
 use Rattle.names.proofs.Tests.{by-option}
@@ -28,10 +27,9 @@ unfolding followed
 follow-end el zero h = refl
 follow-end el (suc n) {z} h = rw (eq-eqb (get_or el (5 * z + 3) 0) 0 h)
 
-pub follow-more : (el : List ℕ) (n z : ℕ) {y : ℕ} → 0 < n → y ≡ get_or el (5 * z + 3) 0 → (y ≡ 0 → ⊥) → followed el n z ≡ followed el (n - 1) (y - 1)
+pub follow-more : (el : List ℕ) (z : ℕ) {n m y : ℕ} → n ≡ suc m → y ≡ get_or el (5 * z + 3) 0 → (y ≡ 0 → ⊥) → followed el n z ≡ followed el m (y - 1)
 unfolding followed
-follow-more el zero z l e h = absurd (omega arith)
-follow-more el (suc n) z l e h = rw (e, sub-one (suc n), ne_eqb (get_or el (5 * z + 3) 0) 0 (λ k. h (e ∙ k)))
+follow-more el z q e h = rw (q, e, ne_eqb (get_or el (5 * z + 3) 0) 0 (λ k. h (e ∙ k)))
 
 pub follow-last : (el : List ℕ) (n : ℕ) {z : ℕ} → n ≤ 0 → followed el n z ≡ z
 unfolding followed
@@ -42,7 +40,7 @@ pub stepping-on : {el : List ℕ} {z y : ℕ} → Stepping el z → y ≡ get_or
 stepping-on {el} {z} {y} S e h = record { elems = S.elems; low = omega (arith, S.within z S.low); room = S.room; within = S.within }
 
 -- ---- it is the chain
-module _ (s : Recipe) (h₅ : fault₅ s ≡ none) (h₇ : fault₇ s ≡ none) (el : List ℕ) (G : Nexts s el) where
+module _ (s : Recipe) (h₅ : fault₅ s ≡ None) (h₇ : fault₇ s ≡ None) (el : List ℕ) (G : Nexts s el) where
   chain-law : (n : ℕ) (x : Node) → In x (tree_elements s) → followed el n (number s x) ≡ number s (chain_within n s x)
   unfolding followed chain_within step_of
   chain-law zero x i = refl
@@ -55,8 +53,8 @@ module _ (s : Recipe) (h₅ : fault₅ s ≡ none) (h₇ : fault₇ s ≡ none) 
       (λ y p.
       let g : get_or el (5 * number s x + 3) 0 ≡ number s y + 1 = G x i ∙ rw (p, step_of) in
       let k : chain_within (suc n) s x ≡ chain_within n s y = rw (p, chain_within) in
-      follow-more el (suc n) (number s x) (omega arith) refl (λ z. omega arith)
-      ∙ rw (sub-one (suc n)) (ap (followed el n) (omega arith)) ∙ chain-law n y (step_in s h₅ h₇ x y p) ∙ ap (number s) (sym k))
+      follow-more el (number s x) refl refl (λ z. omega arith)
+      ∙ ap (followed el n) (omega arith) ∙ chain-law n y (step_in s h₅ h₇ x y p) ∙ ap (number s) (sym k))
 
   pub end-law : (x : Node) → In x (tree_elements s) → followed el 5 (number s x) ≡ number s (chain_end s x)
   unfolding chain_end

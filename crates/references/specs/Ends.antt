@@ -1,7 +1,6 @@
 -- The end of a chain: by the column of steps, and from the reference of a survivor, column 4.
 -- Assumes nothing.
-use Rattle.std.specs.Prelude.{◌*◌, ◌+◌, ◌-◌, ◌<◌, ◌≤◌, suc, zero, ℕ, eqb, get_or, length, cond, List, ◌≡◌}
-use Rattle.std.proofs.Math.Option.{none, some}
+use Rattle.std.specs.Prelude.{◌*◌, ◌+◌, ◌-◌, ◌<◌, ◌≤◌, suc, zero, ℕ, eqb, get_or, length, cond, List, ◌≡◌, None, Option, Some}
 use Rattle.names.specs.Lists.{In}
 use Rattle.recipe.specs.Records.{Recipe}
 use Rattle.tree.specs.Numbers.{number}
@@ -22,7 +21,12 @@ pub record Stepping (el : List ℕ) (e : ℕ) : Type 0 where
 
 -- one more than the number of the end of the chain from the reference of x, or 0
 unfoldable pub end_of : Recipe → Node → ℕ
-end_of s x = elim (reference_of s x) [ none ↦ 0 | some y ↦ number s (chain_end s y) + 1 ]
+end_of s x = elim (reference_of s x) [ None ↦ 0 | Some y ↦ number s (chain_end s y) + 1 ]
+
+-- what column 4 has for the end of number z, and for none
+abbrev pub end_cell : Option ℕ → ℕ
+end_cell None = 0
+end_cell (Some z) = z + 1
 
 -- column 4, of the survivors
 abbrev pub Ends : Recipe → List ℕ → Type 0

@@ -1,7 +1,6 @@
 -- Row 12 by the numbers of its elements: whether an end does, and whether a reference is at fault.
 -- Assumes nothing.
-use Rattle.std.specs.Prelude.{◌≤◌, ℕ, length, List, Bool, ◌||◌, not, ◌≡◌}
-use Rattle.std.proofs.Math.Option.{none, some}
+use Rattle.std.specs.Prelude.{◌≤◌, ℕ, length, List, Bool, ◌||◌, not, ◌≡◌, None, Some}
 use Rattle.names.specs.Lists.{In}
 use Rattle.flat_table.specs.Classes.{reference_allowed}
 use Rattle.recipe.specs.Reading.{fault₅}
@@ -18,14 +17,14 @@ use Rattle.marks.specs.Marks.{is_gone}
 pub record Referring (s : Recipe) (el : List ℕ) : Type 0 where
   pub narrow : s.width ≤ 64
   pub short : length s.bytes ≤ 16384
-  pub row₅ : fault₅ s ≡ none
-  pub row₇ : fault₇ s ≡ none
+  pub row₅ : fault₅ s ≡ None
+  pub row₇ : fault₇ s ≡ None
   pub rows : ElementRows s el
   pub gones : Gones s el
 
 -- b says whether the element of number z is no fit end of a chain, for a reference of class c
 abbrev pub UnfitAt : Recipe → ℕ → ℕ → Bool → Type 0
-UnfitAt s c z b = (v : Node) → In v (tree_elements s) → number s v ≡ z → b ≡ is_gone s v || not (reference_allowed c (some (class s v.place)))
+UnfitAt s c z b = (v : Node) → In v (tree_elements s) → number s v ≡ z → b ≡ is_gone s v || not (reference_allowed c (Some (class s v.place)))
 
 -- b says whether the reference of the element of number e is at fault
 abbrev pub FaultAt : Recipe → ℕ → Bool → Type 0

@@ -20,9 +20,7 @@
 --  10  target            a port or mark       its target's record                              first_untargeted
 --
 -- Assumes nothing.
-use Rattle.std.specs.Prelude.{ℕ, ◌+◌, ◌≤◌, ◌<◌, ◌≡◌, true, false, List, [], ◌∷◌, length, get_or, eqb}
-use Rattle.std.proofs.Math.Option
-use Rattle.std.proofs.Math.Option.{none}
+use Rattle.std.specs.Prelude.{ℕ, ◌+◌, ◌≤◌, ◌<◌, ◌≡◌, true, false, List, [], ◌∷◌, length, get_or, eqb, None, unwrap_or}
 use Rattle.names.specs.Lists.{In}
 use Rattle.names.specs.Names.{is_blank}
 use Rattle.recipe.specs.Records.{Recipe, places, is_element, is_submodel, is_factors, is_owned, is_pointer, parent_field, reference_field, submodel_field, time_field, extent_field}
@@ -49,19 +47,19 @@ pub record Numbered (s : Recipe) (t : List ℕ) : Type 0 where
 -- the cells 3 to 5 besides, of a recipe that rows 1 to 5 do not refuse: what its records name; nothing is said of cell 5 of a submodel
 pub record Linked (s : Recipe) (t : List ℕ) : Type 0 where
   pub numbered : Numbered s t
-  pub row₃ : fault₃ s ≡ none
-  pub row₄ : fault₄ s ≡ none
-  pub row₅ : fault₅ s ≡ none
-  pub parents : (e : ℕ) → In e (places s) → is_element s e ≡ true → get_or t (e + 3) 0 ≡ Option.get_or (element_in s e (parent_field s e)) 0
+  pub row₃ : fault₃ s ≡ None
+  pub row₄ : fault₄ s ≡ None
+  pub row₅ : fault₅ s ≡ None
+  pub parents : (e : ℕ) → In e (places s) → is_element s e ≡ true → get_or t (e + 3) 0 ≡ unwrap_or (element_in s e (parent_field s e)) 0
   pub owners : (r : ℕ) → In r (places s) → is_owned s r ≡ true → get_or t (r + 3) 0 ≡ owner_of s r
   pub models : (m : ℕ) → In m (places s) → is_submodel s m ≡ true → get_or t (m + 3) 0 ≡ model_of s m
-  pub references : (e : ℕ) → In e (places s) → is_element s e ≡ true → get_or t (e + 4) 0 ≡ Option.get_or (element_in s e (reference_field s e)) 0
+  pub references : (e : ℕ) → In e (places s) → is_element s e ≡ true → get_or t (e + 4) 0 ≡ unwrap_or (element_in s e (reference_field s e)) 0
   pub named-submodels : (r : ℕ) → In r (places s) → is_pointer s r ≡ true → is_blank (submodel_field s r) ≡ false → get_or t (r + 4) 0 ≡ submodel_of s r
   pub no-submodels : (r : ℕ) → In r (places s) → is_pointer s r ≡ true → is_blank (submodel_field s r) ≡ true → get_or t (r + 4) 0 ≡ 0
-  pub named-records : (r : ℕ) → In r (places s) → is_pointer s r ≡ true → get_or t (r + 5) 0 ≡ Option.get_or (named_by s r) 0
-  pub times : (f : ℕ) → In f (places s) → is_factors s f ≡ true → get_or t (f + 3) 0 ≡ Option.get_or (element_in s f (time_field s f)) 0
-  pub scaled : (f : ℕ) → In f (places s) → is_factors s f ≡ true → get_or t (f + 4) 0 ≡ Option.get_or (scaled_by s f) 0
-  pub extents : (f : ℕ) → In f (places s) → is_factors s f ≡ true → get_or t (f + 5) 0 ≡ Option.get_or (element_in s f (extent_field s f)) 0
+  pub named-records : (r : ℕ) → In r (places s) → is_pointer s r ≡ true → get_or t (r + 5) 0 ≡ unwrap_or (named_by s r) 0
+  pub times : (f : ℕ) → In f (places s) → is_factors s f ≡ true → get_or t (f + 3) 0 ≡ unwrap_or (element_in s f (time_field s f)) 0
+  pub scaled : (f : ℕ) → In f (places s) → is_factors s f ≡ true → get_or t (f + 4) 0 ≡ unwrap_or (scaled_by s f) 0
+  pub extents : (f : ℕ) → In f (places s) → is_factors s f ≡ true → get_or t (f + 5) 0 ≡ unwrap_or (element_in s f (extent_field s f)) 0
 
 -- cell 5 of each submodel, before its kind 8 is known
 abbrev pub Unpaired : Recipe → List ℕ → Type 0
@@ -69,8 +67,8 @@ Unpaired s t = (m : ℕ) → In m (places s) → is_submodel s m ≡ true → ge
 
 -- and once it is known, where row 19 does not apply either
 pub record Paired (s : Recipe) (t : List ℕ) : Type 0 where
-  pub row₁₉ : fault₁₉ s ≡ none
-  pub factors : (m : ℕ) → In m (places s) → is_submodel s m ≡ true → get_or t (m + 5) 0 ≡ Option.get_or (factors_of s m) 0
+  pub row₁₉ : fault₁₉ s ≡ None
+  pub factors : (m : ℕ) → In m (places s) → is_submodel s m ≡ true → get_or t (m + 5) 0 ≡ unwrap_or (factors_of s m) 0
 
 -- cell 6: each definition's height is 1 at least, and greater than that of each of its submodels' models
 pub record Heights (s : Recipe) (t : List ℕ) : Type 0 where
@@ -81,5 +79,5 @@ pub record Heights (s : Recipe) (t : List ℕ) : Type 0 where
 pub record Measured (s : Recipe) (t : List ℕ) : Type 0 where
   pub linked : Linked s t
   pub paired : Paired s t
-  pub row₆ : fault₆ s ≡ none
+  pub row₆ : fault₆ s ≡ None
   pub heights : Heights s t

@@ -1,12 +1,12 @@
 -- Row 10's pass: one record of it, by the classes of its owner and its target.
 -- Assumes nothing.
+use Rattle.std.specs.Prelude.{Some}
 use Prim.Native.Nat.{◌+◌, ◌<◌, ◌≤◌, ℕ}
 use lib.Dec.{eqb}
 use lib.ListN.{get_or, length}
 use mathlib.Core.Bool.{Bool, false, not, true}
 use mathlib.Core.List.{List}
 use mathlib.Core.Logic.{⊎_elim}
-use mathlib.Core.Option.{some}
 use mathlib.Core.Path.{◌∙◌, ◌≡◌, sym}
 use Rattle.names.proofs.Tests.{or_cases, or_left}
 use Rattle.recipe.specs.Definitions.{holder, owner_of}
@@ -50,7 +50,7 @@ module _ {s : Recipe} {t : List ℕ} (A : Aimed s t) {p : ℕ} (g : Going s (is_
     is-mark : is_mark s p ≡ true
     is-mark = ⊎_elim (replacement-mark s p) (replaced-by-mark s p) (or_cases (is_replacement s p) (is_replaced_by s p) owned)
 
-    the-target : (x : Node) × (target s p ≡ some x)
+    the-target : (x : Node) × (target s p ≡ Some x)
     the-target = target-exists s A.row₈ p this.place (or_left (is_mark s p) (is_port s p) is-mark)
 
     abbrev x : Node

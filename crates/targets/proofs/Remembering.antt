@@ -1,15 +1,15 @@
 -- Targets that are kept: what is kept answers, an answer that is kept leaves the cells right, and the pass over all ports and marks.
 -- Assumes nothing.
+use Rattle.std.specs.Prelude.{None, Some, is_some}
 use Prim.Native.Nat.{◌+◌, ◌<◌, ◌≤◌, ℕ}
 use borrow.Author.Tests.{eqb-false, eqb-true, not-false, not-true}
 use lib.Dec.{eqb}
 use lib.ListN.{get_or, length, set}
 use mathlib.Core.Bool.{Bool, false, false≢true, not, true, true≢false}
 use mathlib.Core.List.{List, [], ◌∷◌}
-use mathlib.Core.Option.{none, some}
 use mathlib.Core.Path.{◌∙◌, ◌≡◌, ap, refl, sym}
 use native.Mathlib.Omega.{arith}
-use Rattle.names.specs.Lists.{In, among, is_some}
+use Rattle.names.specs.Lists.{In, among}
 use Rattle.names.proofs.Tests.{by_cases, not-both, the-some}
 use Rattle.recipe.specs.Definitions.{holder}
 use Rattle.recipe.specs.Records.{Recipe, is_pointer, kind, places, pointer_kind, record_length}
@@ -183,10 +183,10 @@ module _ {s : Recipe} {t₀ : List ℕ} (M : Measured s t₀) where
     now-measured = measured-over g.kept refl refl refl M
 
     -- no port or mark is without a target
-    pub targets-end : length s.bytes ≤ p → (fault₈ s ≡ none) × (Aimed s t × TargetNumbers s t)
+    pub targets-end : length s.bytes ≤ p → (fault₈ s ≡ None) × (Aimed s t × TargetNumbers s t)
     unfolding reach fault₈
     targets-end l =
-        let e : fault₈ s ≡ none = going_end g.going l in
+        let e : fault₈ s ≡ None = going_end g.going l in
         let K : (r : ℕ) → In r (places s) → is_pointer s r ≡ true → Keeps s t r (get_or t (r + 10) 0) (get_or t (r + 9) 0) = λ r i k.
         g.memo r i k (g.done r i k (omega (arith, place-low s r i))) in (
           e,
@@ -234,7 +234,7 @@ module _ {s : Recipe} {t₀ : List ℕ} (M : Measured s t₀) where
           pub kept_on : Kept s (9 ∷ 10 ∷ []) t₀ t'
           kept_on = kept_then g.kept W.kept
 
-          pub target_hit : not ok ≡ true → fault₈ s ≡ some p
+          pub target_hit : not ok ≡ true → fault₈ s ≡ Some p
           unfolding fault₈
           target_hit h = going-hit this-target (fault-is ∙ h)
 

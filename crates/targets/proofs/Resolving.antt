@@ -1,5 +1,6 @@
 -- Resolving a port or mark: the record that it names, and what follows of its target.
 -- Assumes nothing.
+use Rattle.std.specs.Prelude.{None, Option, Some, is_some, option_map, unwrap_or}
 use Prim.Native.Nat.{◌+◌, ◌<◌, ◌≤◌, suc, ℕ}
 use borrow.Author.Tests.{eqb-true, not-false, not-true}
 use lib.Dec.{eqb}
@@ -7,11 +8,9 @@ use lib.ListN.{get_or, length}
 use mathlib.Core.Bool.{◌&&◌, ◌||◌, false, not, true}
 use mathlib.Core.List.{List, [], ◌∷◌}
 use mathlib.Core.Logic.{◌⊎◌, inl, inr, ⊎_elim}
-use mathlib.Core.Option
-use mathlib.Core.Option.{Option, map, none, some}
 use mathlib.Core.Path.{◌∙◌, ◌≡◌, ap, refl, sym}
 use native.Mathlib.Omega.{arith}
-use Rattle.names.specs.Lists.{In, is_some, same}
+use Rattle.names.specs.Lists.{In, same}
 use Rattle.names.specs.Names.{is_blank, text}
 use Rattle.names.proofs.Lists.{in-keep, none_first, some_first}
 use Rattle.names.proofs.Tests.{is-some, and_left, by_cases, by-option, is_some-map, not-both, or-none-left, or_right}
@@ -32,8 +31,8 @@ use Rattle.targets.proofs.ByHeight.{target-by-height}
 
 module _ (s : Recipe) where
   -- ---- a pointer's submodel, by row 5
-  sub-there : fault₅ s ≡ none → (r : ℕ) → In r (places s) → is_mark s r || is_port s r ≡ true → is_blank (submodel_field s r) ≡ false
-      → submodel_named s (holder s r) (text (submodel_field s r)) ≡ some (submodel_of s r)
+  sub-there : fault₅ s ≡ None → (r : ℕ) → In r (places s) → is_mark s r || is_port s r ≡ true → is_blank (submodel_field s r) ≡ false
+      → submodel_named s (holder s r) (text (submodel_field s r)) ≡ Some (submodel_of s r)
   unfolding fault₅ is_undeclared is_port_fault is_submodel_field_fault is_model is_element is_port is_submodel is_mark is_deletion is_replacement is_replaced_by submodel_of
   sub-there h r i k b =
       let u : is_undeclared s r ≡ false = none_first (is_undeclared s) (places s) r h i in
@@ -46,9 +45,9 @@ module _ (s : Recipe) where
       (λ e. or-none-left (not (is_some o)) _ (rw e at u))
       (kind s r) (sym (pointer-kind s r) ∙ k) refl) in
       let e = is-some o t in
-      e.1 ∙ ap some (sym (ap (λ (z : Option ℕ). Option.get_or z 0) e.1))
+      e.1 ∙ ap Some (sym (ap (λ (z : Option ℕ). unwrap_or z 0) e.1))
 
-  pub sub_in : fault₅ s ≡ none → (r : ℕ) → In r (places s) → is_mark s r || is_port s r ≡ true → is_blank (submodel_field s r) ≡ false
+  pub sub_in : fault₅ s ≡ None → (r : ℕ) → In r (places s) → is_mark s r || is_port s r ≡ true → is_blank (submodel_field s r) ≡ false
       → In (submodel_of s r) (submodels s (holder s r))
   unfolding submodel_named named
   sub_in h r i k b = (some_first (λ p. same (name s p) (text (submodel_field s r))) (submodels s (holder s r)) (submodel_of s r) (sub-there h r i k b)).0
@@ -74,25 +73,25 @@ module _ (s : Recipe) where
     pub held : holder s x ≡ d
     pub some-place : x ≡ 0 → ⊥
 
-  an-element : (d x : ℕ) (t : List ℕ) → element_named s d t ≡ some x → NamedElement d x
+  an-element : (d x : ℕ) (t : List ℕ) → element_named s d t ≡ Some x → NamedElement d x
   unfolding element_named named elements
   an-element d x t e =
       let f = in-keep (is_element s) (records_of s d) x (some_first (λ p. same (name s p) t) (elements s d) x e).0 in
       let g = in-records s d x f.0 in
       record { place = g.0; sort = f.1; held = g.1; some-place = not-zero d x f.0 }
 
-  a-port : (d x : ℕ) (t : List ℕ) → port_named s d t ≡ some x → NamedPort d x
+  a-port : (d x : ℕ) (t : List ℕ) → port_named s d t ≡ Some x → NamedPort d x
   unfolding port_named named ports
   a-port d x t e =
       let f = in-keep (is_port s) (records_of s d) x (some_first (λ p. same (name s p) t) (ports s d) x e).0 in
       let g = in-records s d x f.0 in
       record { place = g.0; sort = f.1; held = g.1; some-place = not-zero d x f.0 }
 
-  named_blank : (r x : ℕ) → is_blank (submodel_field s r) ≡ true → named_by s r ≡ some x → NamedElement (holder s r) x
+  named_blank : (r x : ℕ) → is_blank (submodel_field s r) ≡ true → named_by s r ≡ Some x → NamedElement (holder s r) x
   unfolding named_by
   named_blank r x b e = an-element (holder s r) x (text (target_field s r)) (rw b at e)
 
-  named-below : (r x : ℕ) → is_blank (submodel_field s r) ≡ false → named_by s r ≡ some x
+  named-below : (r x : ℕ) → is_blank (submodel_field s r) ≡ false → named_by s r ≡ Some x
       → ((eqb (way s r) 0 ≡ true) × NamedElement (model_of s (submodel_of s r)) x) ⊎ ((eqb (way s r) 0 ≡ false) × NamedPort (model_of s (submodel_of s r)) x)
   unfolding named_by
   named-below r x b e =
@@ -101,29 +100,29 @@ module _ (s : Recipe) where
       (λ w. inr (w, a-port (model_of s (submodel_of s r)) x (text (target_field s r)) (rw (b, w) at e)))
 
   -- ---- targets, one record further
-  target-blank : (n r : ℕ) → is_blank (submodel_field s r) ≡ true → target_within (suc n) s r ≡ map (node []) (named_by s r)
+  target-blank : (n r : ℕ) → is_blank (submodel_field s r) ≡ true → target_within (suc n) s r ≡ option_map (node []) (named_by s r)
   unfolding target_within target_by named_by element_target
   target-blank n r b = rw (b, target_by)
 
-  target-way : (n r : ℕ) → fault₅ s ≡ none → In r (places s) → is_mark s r || is_port s r ≡ true → is_blank (submodel_field s r) ≡ false
-      → target_within (suc n) s r ≡ map (through (submodel_of s r)) (target_named s (target_within n s) (model_of s (submodel_of s r)) (way s r) (text (target_field s r)))
+  target-way : (n r : ℕ) → fault₅ s ≡ None → In r (places s) → is_mark s r || is_port s r ≡ true → is_blank (submodel_field s r) ≡ false
+      → target_within (suc n) s r ≡ option_map (through (submodel_of s r)) (target_named s (target_within n s) (model_of s (submodel_of s r)) (way s r) (text (target_field s r)))
   unfolding target_within target_by submodel_names target_below
   target-way n r h i k b = rw (b, target_by, sub-there h r i k b, target_below)
 
-  named_none : (n r : ℕ) → is_blank (submodel_field s r) ≡ false → named_by s r ≡ none
-      → target_named s (target_within n s) (model_of s (submodel_of s r)) (way s r) (text (target_field s r)) ≡ none
+  named_none : (n r : ℕ) → is_blank (submodel_field s r) ≡ false → named_by s r ≡ None
+      → target_named s (target_within n s) (model_of s (submodel_of s r)) (way s r) (text (target_field s r)) ≡ None
   unfolding named_by target_named element_target
   named_none n r b e =
       by_cases (eqb (way s r) 0)
       (λ w. rw (w, target_named, rw (b, w) at e))
       (λ w. rw (w, target_named, rw (b, w) at e))
 
-  named-element : (n r x : ℕ) → is_blank (submodel_field s r) ≡ false → named_by s r ≡ some x → eqb (way s r) 0 ≡ true
-      → target_named s (target_within n s) (model_of s (submodel_of s r)) (way s r) (text (target_field s r)) ≡ some (node [] x)
+  named-element : (n r x : ℕ) → is_blank (submodel_field s r) ≡ false → named_by s r ≡ Some x → eqb (way s r) 0 ≡ true
+      → target_named s (target_within n s) (model_of s (submodel_of s r)) (way s r) (text (target_field s r)) ≡ Some (node [] x)
   unfolding named_by target_named element_target
   named-element n r x b e w = rw (w, target_named, rw (b, w) at e)
 
-  named-port : (n r x : ℕ) → is_blank (submodel_field s r) ≡ false → named_by s r ≡ some x → eqb (way s r) 0 ≡ false
+  named-port : (n r x : ℕ) → is_blank (submodel_field s r) ≡ false → named_by s r ≡ Some x → eqb (way s r) 0 ≡ false
       → target_named s (target_within n s) (model_of s (submodel_of s r)) (way s r) (text (target_field s r)) ≡ target_within n s x
   unfolding named_by target_named
   named-port n r x b e w = rw (w, target_named, rw (b, w) at e)
@@ -162,23 +161,23 @@ module _ {s : Recipe} {t : List ℕ} (M : Measured s t) (r : ℕ) (here : In r (
   by_one : target s r ≡ target_within (suc h) s r
   by_one = target-by-height M (suc h) r here (omega arith)
 
-  named-zero : (x : ℕ) → named_by s r ≡ some x → x ≡ 0 → ⊥
+  named-zero : (x : ℕ) → named_by s r ≡ Some x → x ≡ 0 → ⊥
   named-zero x e =
       by_cases (is_blank (submodel_field s r))
       (λ b. (named_blank s r x b e).some-place)
       (λ b. ⊎_elim (λ (w : (eqb (way s r) 0 ≡ true) × NamedElement s (model_of s (submodel_of s r)) x). w.1.some-place)
       (λ (w : (eqb (way s r) 0 ≡ false) × NamedPort s (model_of s (submodel_of s r)) x). w.1.some-place) (named-below s r x b e))
 
-  next-none : {x : ℕ} → x ≡ get_or t (r + 5) 0 → x ≡ 0 → named_by s r ≡ none
+  next-none : {x : ℕ} → x ≡ get_or t (r + 5) 0 → x ≡ 0 → named_by s r ≡ None
   next-none q z =
       by-option (named_by s r) (λ e. e)
-      (λ y e. absurd (named-zero y e (sym (L.named-records r here sort ∙ ap (λ (o : Option ℕ). Option.get_or o 0) e) ∙ sym q ∙ z)))
+      (λ y e. absurd (named-zero y e (sym (L.named-records r here sort ∙ ap (λ (o : Option ℕ). unwrap_or o 0) e) ∙ sym q ∙ z)))
 
-  next-some : {x : ℕ} → x ≡ get_or t (r + 5) 0 → (x ≡ 0 → ⊥) → named_by s r ≡ some x
+  next-some : {x : ℕ} → x ≡ get_or t (r + 5) 0 → (x ≡ 0 → ⊥) → named_by s r ≡ Some x
   next-some q z =
       by-option (named_by s r)
-      (λ e. absurd (z (q ∙ L.named-records r here sort ∙ ap (λ (o : Option ℕ). Option.get_or o 0) e)))
-      (λ y e. e ∙ ap some (sym (q ∙ L.named-records r here sort ∙ ap (λ (o : Option ℕ). Option.get_or o 0) e)))
+      (λ e. absurd (z (q ∙ L.named-records r here sort ∙ ap (λ (o : Option ℕ). unwrap_or o 0) e)))
+      (λ y e. e ∙ ap Some (sym (q ∙ L.named-records r here sort ∙ ap (λ (o : Option ℕ). unwrap_or o 0) e)))
 
   sub_held : is_blank (submodel_field s r) ≡ false → In (submodel_of s r) (submodels s (holder s r))
   sub_held b = sub_in s L.row₅ r here sort b
@@ -196,12 +195,12 @@ module _ {s : Recipe} {t : List ℕ} (M : Measured s t) (r : ℕ) (here : In r (
       (λ b. rw (filled-cell b).0 (omega (arith, row_room c₀ (submodel_of s r) (in-submodels s (holder s r) (submodel_of s r) (sub_held b)).placed)))
 
   -- no record is named
-  pub no_target : {x : ℕ} → x ≡ get_or t (r + 5) 0 → x ≡ 0 → target s r ≡ none
+  pub no_target : {x : ℕ} → x ≡ get_or t (r + 5) 0 → x ≡ 0 → target s r ≡ None
   no_target q z =
       by_one
       ∙ by_cases (is_blank (submodel_field s r))
-      (λ b. target-blank s h r b ∙ ap (map (node [])) (next-none q z))
-      (λ b. target-way s h r L.row₅ here sort b ∙ ap (map (through (submodel_of s r))) (named_none s h r b (next-none q z)))
+      (λ b. target-blank s h r b ∙ ap (option_map (node [])) (next-none q z))
+      (λ b. target-way s h r L.row₅ here sort b ∙ ap (option_map (through (submodel_of s r))) (named_none s h r b (next-none q z)))
 
   offset-is : {f : ℕ} → OffsetOf t r f → is_blank (submodel_field s r) ≡ false → OffsetsKnown s t (holder s r) → f ≡ ahead s (holder s r) (submodel_of s r)
   offset-is o b k =
@@ -211,7 +210,7 @@ module _ {s : Recipe} {t : List ℕ} (M : Measured s t) (r : ℕ) (here : In r (
       ∙ ap (λ (d : ℕ). ahead s d (submodel_of s r)) held
 
   module _ {x : ℕ} (q : x ≡ get_or t (r + 5) 0) (z : x ≡ 0 → ⊥) where
-    is-named : named_by s r ≡ some x
+    is-named : named_by s r ≡ Some x
     is-named = next-some q z
 
     pub named-place : In x (places s)
@@ -245,7 +244,7 @@ module _ {s : Recipe} {t : List ℕ} (M : Measured s t) (r : ℕ) (here : In r (
         let v : number_in s (holder s r) (node [] x) ≡ f + g =
         omega (arith, number-own s (holder s r) x, order_is E e, o.blank (L.no-submodels r here sort b)) in record {
           node = node [] x;
-          there = by_one ∙ target-blank s h r b ∙ ap (map (node [])) is-named;
+          there = by_one ∙ target-blank s h r b ∙ ap (option_map (node [])) is-named;
           at = refl;
           counts = λ kn l. a (omega arith) ∙ sym v;
         })
@@ -256,7 +255,7 @@ module _ {s : Recipe} {t : List ℕ} (M : Measured s t) (r : ℕ) (here : In r (
         let v : OffsetsKnown s t (holder s r) → number_in s (holder s r) (through m (node [] x)) ≡ f + g = λ kn.
         omega (arith, number-through s (holder s r) m (node [] x), number-own s (model_of s m) x, order_is w.1 e, offset-is o b kn) in record {
           node = through m (node [] x);
-          there = by_one ∙ target-way s h r L.row₅ here sort b ∙ ap (map (through m)) (named-element s h r x b is-named w.0);
+          there = by_one ∙ target-way s h r L.row₅ here sort b ∙ ap (option_map (through m)) (named-element s h r x b is-named w.0);
           at = refl;
           counts = λ kn l. a (omega (arith, v kn)) ∙ sym (v kn);
         })
@@ -288,10 +287,10 @@ module _ {s : Recipe} {t : List ℕ} (M : Measured s t) (r : ℕ) (here : In r (
       pub port-lower : get_or t (holder s x + 6) 0 < get_or t (holder s r + 6) 0
       port-lower = rw port.1.held (M.heights.falls (holder s r) m (sub_held filled))
 
-      through-port : target s r ≡ map (through m) (target s x)
+      through-port : target s r ≡ option_map (through m) (target s x)
       through-port =
           by_one ∙ target-way s h r L.row₅ here sort filled
-          ∙ ap (map (through m)) (named-port s h r x filled is-named port.0 ∙ sym (target-by-height M h x named-place (omega (arith, port-lower))))
+          ∙ ap (option_map (through m)) (named-port s h r x filled is-named port.0 ∙ sym (target-by-height M h x named-place (omega (arith, port-lower))))
 
       pub port-found : is_some (target s r) ≡ is_some (target s x)
       port-found = ap is_some through-port ∙ is_some-map (through m) (target s x)
@@ -303,7 +302,7 @@ module _ {s : Recipe} {t : List ℕ} (M : Measured s t) (r : ℕ) (here : In r (
           let e = port.1.held in
           let u : number_in s (holder s x) K.node ≡ number_in s (model_of s m) K.node = ap (λ (d : ℕ). number_in s d K.node) e in record {
             node = through m K.node;
-            there = through-port ∙ ap (map (through m)) K.there;
+            there = through-port ∙ ap (option_map (through m)) K.there;
             at = K.at;
             counts = λ kn l.
                 let w = offset-is o filled kn in

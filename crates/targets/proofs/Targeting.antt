@@ -1,10 +1,10 @@
 -- The tree over later writes of the shadow; and the targets' numbers of all ports and marks of the tree.
 -- Assumes nothing.
+use Rattle.std.specs.Prelude.{None, Some}
 use Prim.Native.Nat.{◌+◌, ◌<◌, ℕ}
 use lib.Dec.{leb}
 use mathlib.Core.Bool.{true}
 use mathlib.Core.List.{List, [], ◌++◌, ◌∷◌}
-use mathlib.Core.Option.{none, some}
 use mathlib.Core.Path.{◌∙◌, ◌≡◌, ap, refl}
 use native.Mathlib.Omega.{arith}
 use Rattle.names.specs.Lists.{In, every}
@@ -48,7 +48,7 @@ module _ (s : Recipe) where
       P.offsets (path ++ q) (is-instance s P.row₇ (path ++ q) (submodels-append s main path q (instance-path s path i) p)) m
       (rw (below-append s main path q) j)
 
-  module _ (h₇ : fault₇ s ≡ none) (x y : Node) (P : Placed s (is_pointer s) x) (e : target s x.place ≡ some y) where
+  module _ (h₇ : fault₇ s ≡ None) (x y : Node) (P : Placed s (is_pointer s) x) (e : target s x.place ≡ Some y) where
     -- with the path of its instance in front a target is an element of the tree
     abbrev from-here : Node
     from-here = record { path = x.path ++ y.path; place = y.place }

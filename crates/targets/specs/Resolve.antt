@@ -1,8 +1,7 @@
 -- Targets as they are found: what the cells 9 and 10 of the shadow keep, and what resolving a port or mark leaves there.
 -- Assumes nothing.
-use Rattle.std.specs.Prelude.{◌+◌, ◌<◌, ℕ, get_or, Bool, true, List, [], ◌∷◌, ◌≡◌}
-use Rattle.std.proofs.Math.Option.{some}
-use Rattle.names.specs.Lists.{In, is_some}
+use Rattle.std.specs.Prelude.{◌+◌, ◌<◌, ℕ, get_or, Bool, true, List, [], ◌∷◌, ◌≡◌, Some, is_some}
+use Rattle.names.specs.Lists.{In}
 use Rattle.recipe.specs.Definitions.{holder}
 use Rattle.recipe.specs.Records.{Recipe, is_pointer, places}
 use Rattle.shadow.specs.Shadow.{Kept}
@@ -20,7 +19,7 @@ pub record OffsetOf (t : List ℕ) (r f : ℕ) : Type 0 where
 -- what is kept of r's target: its place, and its number where the offsets are known and it fits
 pub record Keeps (s : Recipe) (t : List ℕ) (r place num : ℕ) : Type 0 where
   pub node : Node
-  pub there : target s r ≡ some node
+  pub there : target s r ≡ Some node
   pub at : place ≡ node.place
   pub counts : OffsetsKnown s t (holder s r) → number_in s (holder s r) node < 65536 → num ≡ number_in s (holder s r) node
 

@@ -1,7 +1,6 @@
 -- The targets of ports and marks, in the cells 9 and 10 of the shadow.
 -- Assumes nothing.
-use Rattle.std.specs.Prelude.{◌+◌, ℕ, get_or, true, List, ◌≡◌}
-use Rattle.std.proofs.Math.Option.{none, some}
+use Rattle.std.specs.Prelude.{◌+◌, ℕ, get_or, true, List, ◌≡◌, None, Some}
 use Rattle.names.specs.Lists.{In}
 use Rattle.recipe.specs.Records.{Recipe, is_pointer, places}
 use Rattle.shadow.specs.Columns.{Measured}
@@ -13,8 +12,8 @@ use Rattle.tree.specs.Planted.{Planted}
 -- rows 1 to 6, 19 and 8 do not apply: the place of each port's and mark's target
 pub record Aimed (s : Recipe) (t : List ℕ) : Type 0 where
   pub measured : Measured s t
-  pub row₈ : fault₈ s ≡ none
-  pub targets : (r : ℕ) → In r (places s) → is_pointer s r ≡ true → (x : Node) → target s r ≡ some x → get_or t (r + 10) 0 ≡ x.place
+  pub row₈ : fault₈ s ≡ None
+  pub targets : (r : ℕ) → In r (places s) → is_pointer s r ≡ true → (x : Node) → target s r ≡ Some x → get_or t (r + 10) 0 ≡ x.place
 
 -- rows 1 to 8 do not apply: and in the tree its number, counted from the first element of its instance
 pub record Targeted (s : Recipe) (t inst : List ℕ) (n : ℕ) : Type 0 where

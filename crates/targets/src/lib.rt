@@ -3,7 +3,6 @@
 #![tactic(auto)]
 
 ghost use Rattle.std.specs.Prelude.{◌≡◌, true, [], ◌∷◌, ◌+◌, ◌≤◌, ◌<◌, length, get_or, set};
-ghost use Rattle.names.specs.Scans.{found_of};
 ghost use Rattle.recipe.specs.Records.{recipe_at};
 ghost use Rattle.shadow.specs.Shadow.{Kept};
 ghost use Rattle.shadow.specs.Columns.{Measured};
@@ -11,7 +10,6 @@ ghost use Rattle.tree.specs.Faults.{fault₈, fault₁₀};
 ghost use Rattle.targets.specs.Targeted.{Aimed};
 ghost use Rattle.targets.specs.Resolve.{OffsetOf, ResolveRequires, Resolved, TargetNumbers};
 
-use names::Found;
 use shadow::{cell, set_cell};
 
 // One more than the greatest number of a cell.
@@ -87,9 +85,9 @@ fn resolve_reference(s: &[u8], w: usize, t: &mut [u16], r: usize) -> bool
 }
 
 // Row 8: the first mark or port without a target; the places and numbers of the others' targets. Each port is resolved once.
-pub fn first_untargeted(s: &[u8], w: usize, t: &mut [u16]) -> Found
+pub fn first_untargeted(s: &[u8], w: usize, t: &mut [u16]) -> Option<usize>
     requires { Measured (recipe_at w s.now) t.old }
-    ensures { (result ≡ found_of (fault₈ (recipe_at w s.now))) × ((result ≡ Found.Nothing → Aimed (recipe_at w s.now) t.new × TargetNumbers (recipe_at w s.now) t.new) × Kept (recipe_at w s.now) (9 ∷ 10 ∷ []) t.old t.new) }
+    ensures { (result ≡ fault₈ (recipe_at w s.now)) × ((result ≡ None → Aimed (recipe_at w s.now) t.new × TargetNumbers (recipe_at w s.now) t.new) × Kept (recipe_at w s.now) (9 ∷ 10 ∷ []) t.old t.new) }
 {
     shadow::clear_cells(s, w, t, shadow::TARGET);
     let mut p = 0;
@@ -97,14 +95,14 @@ pub fn first_untargeted(s: &[u8], w: usize, t: &mut [u16]) -> Found
         let k = s[p];
         if recipe::is_pointer(k) {
             if !resolve_port(s, w, t, p) {
-                return Found::At(p);
+                return Some(p);
             }
             p += recipe::record_length(k, w);
         } else {
             p += recipe::record_length(k, w);
         }
     }
-    Found::Nothing
+    None
 }
 
 // The class of the element at e.
@@ -116,9 +114,9 @@ fn class_of(s: &[u8], w: usize, e: usize) -> u8
 }
 
 // Row 10: the first mark whose owner's and target's class differ.
-pub fn first_misclassed(s: &[u8], w: usize, t: &[u16]) -> Found
+pub fn first_misclassed(s: &[u8], w: usize, t: &[u16]) -> Option<usize>
     requires { Aimed (recipe_at w s.now) t.now }
-    ensures { result ≡ found_of (fault₁₀ (recipe_at w s.now)) }
+    ensures { result ≡ fault₁₀ (recipe_at w s.now) }
 {
     let mut p = 0;
     while p < s.len() {
@@ -127,12 +125,12 @@ pub fn first_misclassed(s: &[u8], w: usize, t: &[u16]) -> Found
             let a = class_of(s, w, cell(t, p, shadow::OWNER));
             let b = class_of(s, w, cell(t, p, shadow::TARGET));
             if a != b {
-                return Found::At(p);
+                return Some(p);
             }
             p += recipe::record_length(k, w);
         } else {
             p += recipe::record_length(k, w);
         }
     }
-    Found::Nothing
+    None
 }

@@ -1,5 +1,6 @@
 -- Planting the tree: what each way through says.
 -- Assumes nothing.
+use Rattle.std.specs.Prelude.{None, Option, Some, is_some, IfSome}
 use Prim.Native.Nat.{◌*◌, ◌+◌, ◌<◌, ◌≤◌, ℕ}
 use lib.ListN.{get_or, length}
 use lib.Seq.{length-sets, sets}
@@ -22,12 +23,24 @@ use Rattle.tree.specs.Planted.{Planted, ThreadRequires, Threaded}
 use Rattle.tree.specs.Tree.{most_depth, tree_elements}
 use Rattle.tree.specs.Walk.{WalkRequires, over}
 use Rattle.tree.proofs.Trees.{all-planted, elements-are, thread-requires, too_large}
+use Rattle.tree.specs.declared.Size.{Size}
 use Rattle.tree.proofs.Walks.{Out, answer-no, answer-yes, too-heavy}
 
 -- what planting promises
 abbrev PlantOut : Recipe → List ℕ → List ℕ → List ℕ → List ℕ → Bool → ℕ → ℕ → Type 0
 PlantOut s t inst t' inst' large j x =
     (large ≡ is_too_large s) × ((large ≡ false → Planted s t' inst' j × (x ≡ length (tree_elements s))) × ((length t' ≡ length t) × (length inst' ≡ length inst)))
+
+-- the same of the code's answer
+abbrev Planting : Recipe → List ℕ → List ℕ → List ℕ → List ℕ → Option Size → Type 0
+Planting s t inst t' inst' r =
+    (is_some r ≡ not (is_too_large s)) × (IfSome r (λ n. Planted s t' inst' n.insts × (n.elems ≡ length (tree_elements s))) × ((length t' ≡ length t) × (length inst' ≡ length inst)))
+
+pub none-planted : (s : Recipe) (t inst t' inst' : List ℕ) → PlantOut s t inst t' inst' true 0 0 → Planting s t inst t' inst' None
+none-planted s t inst t' inst' o = (ap not o.0, (tt, o.1.1))
+
+pub some-planted : (s : Recipe) (t inst t' inst' : List ℕ) {n : Size} → PlantOut s t inst t' inst' false n.insts n.elems → Planting s t inst t' inst' (Some n)
+some-planted s t inst t' inst' o = (ap not o.0, (o.1.0 refl, o.1.1))
 
 module _ {s : Recipe} {t : List ℕ} (M : Measured s t) (some : 0 < length s.bytes) where
   c₀ : Shadowed s t

@@ -1,11 +1,11 @@
 -- Instances: their paths go from submodel to submodel, and row 7 leaves none out, nor any deeper than four.
 -- Assumes nothing.
+use Rattle.std.specs.Prelude.{None}
 use mathlib.Core.Path.{◌≡◌, refl, ap}
 use mathlib.Core.Logic.{inl, inr}
 use Prim.Native.Nat.{ℕ, zero, suc, ◌+◌, ◌≤◌}
 use native.Mathlib.Omega.{arith}
 use mathlib.Core.Bool.{Bool, false, ◌||◌}
-use mathlib.Core.Option.{none}
 use mathlib.Core.List.{List, [], ◌∷◌, ◌++◌, map}
 use lib.ListN.{length, take, length-take}
 use lib.Dec.{ltb}
@@ -80,7 +80,7 @@ module _ (s : Recipe) where
   instance-path p i = below-submodels _ main p i
 
   -- ---- row 7
-  module _ (h₇ : fault₇ s ≡ none) where
+  module _ (h₇ : fault₇ s ≡ None) where
     not-too-large : is_too_large s ≡ false
     unfolding fault₇
     not-too-large = not-at-start (is_too_large s) h₇

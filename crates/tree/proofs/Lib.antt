@@ -10,3 +10,4 @@ pub mod Trees
 pub mod Threads
 pub mod FromMain
 pub mod ByRecord
+pub mod Steps

@@ -1,9 +1,9 @@
 -- The nodes of the tree: which they are, and how two compare.
 -- Assumes nothing.
+use Rattle.std.specs.Prelude.{Some}
 use mathlib.Core.Path.{◌≡◌, refl}
 use Prim.Native.Nat.{ℕ}
 use mathlib.Core.Bool.{Bool, true}
-use mathlib.Core.Option.{some}
 use mathlib.Core.List.{List, map}
 use borrow.Author.Tests.{eqb-true, eq-eqb}
 use Rattle.names.specs.Lists.{In, keep, same}
@@ -82,20 +82,20 @@ module _ (s : Recipe) where
   element-holder x i = node-holder (in-nodes (is_element s) x i)
 
   -- what a field of an element names is an element of the same instance
-  of-instance : (x y : Node) (q : ℕ) (f : List ℕ) → In x (tree_elements s) → element_in s x.place f ≡ some q → y ≡ node x.path q → In y (tree_elements s)
+  of-instance : (x y : Node) (q : ℕ) (f : List ℕ) → In x (tree_elements s) → element_in s x.place f ≡ Some q → y ≡ node x.path q → In y (tree_elements s)
   unfolding node
   of-instance x y q f i e h =
       rw h
       (tree-in (record { path = x.path; place = q }) (in_tree x i).0
       (rw (element-holder x i) at (element-in s x.place f q e).2))
 
-  pub parent_in : (x y : Node) → In x (tree_elements s) → parent_of s x ≡ some y → In y (tree_elements s)
+  pub parent_in : (x y : Node) → In x (tree_elements s) → parent_of s x ≡ Some y → In y (tree_elements s)
   unfolding parent_of
   parent_in x y i e =
       let r = some-map (node x.path) (element_in s x.place (parent_field s x.place)) y e in
       of-instance x y r.0 (parent_field s x.place) i r.1 r.2
 
-  pub reference-in : (x y : Node) → In x (tree_elements s) → reference_of s x ≡ some y → In y (tree_elements s)
+  pub reference-in : (x y : Node) → In x (tree_elements s) → reference_of s x ≡ Some y → In y (tree_elements s)
   unfolding reference_of
   reference-in x y i e =
       let r = some-map (node x.path) (element_in s x.place (reference_field s x.place)) y e in

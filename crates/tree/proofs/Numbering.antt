@@ -1,10 +1,10 @@
 -- The elements of the tree, in tree order, have the numbers 0, 1, 2 and so on.
 -- Assumes nothing.
+use Rattle.std.specs.Prelude.{None}
 use Prim.Native.Nat.{◌+◌, ◌<◌, ◌≤◌, suc, zero, ℕ}
 use lib.ListN.{length, length-map}
 use mathlib.Core.List.{List, [], ◌++◌, ◌∷◌, append_assoc, append-nil, map}
 use mathlib.Core.Logic.{inl, inr}
-use mathlib.Core.Option.{none}
 use mathlib.Core.Path.{◌∙◌, ◌≡◌, ap, refl, sym}
 use native.Mathlib.Nat.{add-suc, add-zero, suc-add, zero-add}
 use native.Mathlib.Omega.{arith}
@@ -195,7 +195,7 @@ module _ {A : Type 0} (f : A → ℕ) where
       let t : map f l ≡ run (suc k) w = cc in
       run-inj l (suc k) w x y t i j q
 
-module _ (s : Recipe) (h₇ : fault₇ s ≡ none) where
+module _ (s : Recipe) (h₇ : fault₇ s ≡ None) where
   pub shallow-main : Shallow s 5 main
   shallow-main = shallow s 5 main (λ p h. let l = at-most-four s h₇ p h in omega arith)
 

@@ -1,10 +1,10 @@
 -- Where a target is: below its record's definition, at the end of its path; and as many records on the way as there are definitions suffice.
 -- Assumes nothing.
+use Rattle.std.specs.Prelude.{None, Option, Some, option_map}
 use mathlib.Core.Path.{◌≡◌, refl, sym, ap}
 use Prim.Native.Nat.{ℕ, zero, suc, ◌+◌, ◌≤◌}
 use native.Mathlib.Omega.{arith}
 use mathlib.Core.Bool.{true, false}
-use mathlib.Core.Option.{Option, none, some, map}
 use mathlib.Core.List.{List, [], ◌∷◌}
 use lib.ListN.{length}
 use lib.Dec.{eqb}
@@ -55,27 +55,27 @@ module _ (s : Recipe) where
   At d x = Walk d x.path x.place
 
   -- "A target by element name is that element"
-  element-target : (d : ℕ) (t : List ℕ) (x : Node) → element_target s d t ≡ some x → (x.path ≡ []) × In x.place (elements s d)
+  element-target : (d : ℕ) (t : List ℕ) (x : Node) → element_target s d t ≡ Some x → (x.path ≡ []) × In x.place (elements s d)
   unfolding element_target node
   element-target d t x e =
       let r = some-map (node []) (element_named s d t) x e in
       rw r.2 (refl, (element-named s d t r.0 r.1).0)
 
   -- "A port with a blank submodel names an element of its own definition, never a port", whatever its way
-  own-within : (n r : ℕ) (x : Node) → is_blank (submodel_field s r) ≡ true → target_within n s r ≡ some x
-      → element_target s (holder s r) (text (target_field s r)) ≡ some x
+  own-within : (n r : ℕ) (x : Node) → is_blank (submodel_field s r) ≡ true → target_within n s r ≡ Some x
+      → element_target s (holder s r) (text (target_field s r)) ≡ Some x
   unfolding target_within target_by
   own-within zero r x k e = not_none e
   own-within (suc n) r x k e = rw (k, target_by) at e
 
-  pub own-target : (r : ℕ) (x : Node) → is_blank (submodel_field s r) ≡ true → target s r ≡ some x
-      → element_target s (holder s r) (text (target_field s r)) ≡ some x
+  pub own-target : (r : ℕ) (x : Node) → is_blank (submodel_field s r) ≡ true → target s r ≡ Some x
+      → element_target s (holder s r) (text (target_field s r)) ≡ Some x
   unfolding target
   own-target r x k e = own-within (length (definitions s)) r x k e
 
   -- the target that a name has in a definition, where its ports' targets are known
-  named-target : (find : ℕ → Option Node) → ((q : ℕ) (y : Node) → find q ≡ some y → At (holder s q) y)
-      → (d w : ℕ) (t : List ℕ) (x : Node) → target_named s find d w t ≡ some x → At d x
+  named-target : (find : ℕ → Option Node) → ((q : ℕ) (y : Node) → find q ≡ Some y → At (holder s q) y)
+      → (d w : ℕ) (t : List ℕ) (x : Node) → target_named s find d w t ≡ Some x → At d x
   unfolding target_named
   named-target find h d w t x e =
       by_cases (eqb w 0)
@@ -84,8 +84,8 @@ module _ (s : Recipe) where
       (λ p. not_none (rw (k, target_named, p) at e))
       (λ q p. rw (in-ports s d q (port-named s d t q p).0).held at (h q x (rw (k, target_named, p) at e))))
 
-  below-target : (find : ℕ → Option Node) → ((q : ℕ) (y : Node) → find q ≡ some y → At (holder s q) y)
-      → (d : ℕ) (ns : List (List ℕ)) (w : ℕ) (t : List ℕ) (x : Node) → target_below s find d ns w t ≡ some x → At d x
+  below-target : (find : ℕ → Option Node) → ((q : ℕ) (y : Node) → find q ≡ Some y → At (holder s q) y)
+      → (d : ℕ) (ns : List (List ℕ)) (w : ℕ) (t : List ℕ) (x : Node) → target_below s find d ns w t ≡ Some x → At d x
   unfolding target_below through node
   below-target find h d [] w t x e = named-target find h d w t x e
   below-target find h d (k ∷ ns) w t x e =
@@ -95,25 +95,25 @@ module _ (s : Recipe) where
       let y = some-map (through m) (target_below s find (model_of s m) ns w t) x (rw (p, target_below) at e) in
       rw y.2 ((submodel-named s d k m p).0, below-target find h (model_of s m) ns w t y.0 y.1))
 
-  by-target : (find : ℕ → Option Node) → ((q : ℕ) (y : Node) → find q ≡ some y → At (holder s q) y)
-      → (r : ℕ) (x : Node) → target_by s find r ≡ some x → At (holder s r) x
+  by-target : (find : ℕ → Option Node) → ((q : ℕ) (y : Node) → find q ≡ Some y → At (holder s q) y)
+      → (r : ℕ) (x : Node) → target_by s find r ≡ Some x → At (holder s r) x
   unfolding target_by
   by-target find h r x e =
       by_cases (is_blank (submodel_field s r))
       (λ k. let t = element-target (holder s r) (text (target_field s r)) x (rw (k, target_by) at e) in rw t.0 t.1)
       (λ k. below-target find h (holder s r) (submodel_names s r) (way s r) (text (target_field s r)) x (rw (k, target_by) at e))
 
-  pub within : (n r : ℕ) (x : Node) → target_within n s r ≡ some x → Walk (holder s r) x.path x.place
+  pub within : (n r : ℕ) (x : Node) → target_within n s r ≡ Some x → Walk (holder s r) x.path x.place
   unfolding target_within
   within zero r x e = not_none e
   within (suc n) r x e = by-target (target_within n s) (λ q y h. within n q y h) r x e
 
-  pub target-walk : (r : ℕ) (x : Node) → target s r ≡ some x → Walk (holder s r) x.path x.place
+  pub target-walk : (r : ℕ) (x : Node) → target s r ≡ Some x → Walk (holder s r) x.path x.place
   unfolding target
   target-walk r x e = within (length (definitions s)) r x e
 
   -- with a submodel named, it lies below
-  by-nonempty : (find : ℕ → Option Node) (r : ℕ) (x : Node) → is_blank (submodel_field s r) ≡ false → target_by s find r ≡ some x
+  by-nonempty : (find : ℕ → Option Node) (r : ℕ) (x : Node) → is_blank (submodel_field s r) ≡ false → target_by s find r ≡ Some x
       → 1 ≤ length x.path
   unfolding target_by target_below submodel_names through node
   by-nonempty find r x k e =
@@ -123,12 +123,12 @@ module _ (s : Recipe) where
       let t = some-map (through m) (target_below s find (model_of s m) [] (way s r) (text (target_field s r))) x (rw (k, target_by, p, target_below) at e) in
       rw t.2 (omega arith))
 
-  nonempty : (n r : ℕ) (x : Node) → is_blank (submodel_field s r) ≡ false → target_within n s r ≡ some x → 1 ≤ length x.path
+  nonempty : (n r : ℕ) (x : Node) → is_blank (submodel_field s r) ≡ false → target_within n s r ≡ Some x → 1 ≤ length x.path
   unfolding target_within
   nonempty zero r x k e = not_none e
   nonempty (suc n) r x k e = by-nonempty (target_within n s) r x k e
 
-  pub target_below_lem : (r : ℕ) (x : Node) → is_blank (submodel_field s r) ≡ false → target s r ≡ some x → 1 ≤ length x.path
+  pub target_below_lem : (r : ℕ) (x : Node) → is_blank (submodel_field s r) ≡ false → target s r ≡ Some x → 1 ≤ length x.path
   unfolding target
   target_below_lem r x k e = nonempty (length (definitions s)) r x k e
 
@@ -157,7 +157,7 @@ module _ (s : Recipe) where
         (λ m p.
         let i = (submodel-named s d k m p).0 in
         rw (p, target_below)
-        (ap (map (through m)) (below-same (model_of s m) ns w t (h (model_of s m) (direct m i refl)) (λ e r. h e (onward m i r)))))
+        (ap (option_map (through m)) (below-same (model_of s m) ns w t (h (model_of s m) (direct m i refl)) (λ e r. h e (onward m i r)))))
 
     pub by-same : (r : ℕ) → ((e : ℕ) → Reach s (holder s r) e → Agree e) → target_by s f r ≡ target_by s g r
     unfolding target_by submodel_names target_below
@@ -169,10 +169,10 @@ module _ (s : Recipe) where
         (λ m p.
         let i = (submodel-named s (holder s r) (text (submodel_field s r)) m p).0 in
         rw (k, target_by, p, target_below)
-        (ap (map (through m))
+        (ap (option_map (through m))
         (below-same (model_of s m) [] (way s r) (text (target_field s r)) (h (model_of s m) (direct m i refl)) (λ e c. h e (onward m i c))))))
 
-  module _ (h₆ : fault₆ s ≡ none) where
+  module _ (h₆ : fault₆ s ≡ None) where
     -- all that is reached from the record's definition is among xs: as many records as these suffice
     settled : (n m : ℕ) (xs : List ℕ) (r : ℕ) → length xs ≤ n → length xs ≤ m → In (holder s r) xs → In (holder s r) (definitions s)
         → ((e : ℕ) → Reach s (holder s r) e → In e xs) → target_within n s r ≡ target_within m s r

@@ -18,7 +18,7 @@ use Rattle.recipe.proofs.Definitions.{model_in}
 use Rattle.recipe.proofs.Spans.{definition-place}
 use Rattle.shadow.specs.Shadow.{Cell, Kept}
 use Rattle.shadow.proofs.Cells.{cell-kept, cell_set, kept-all, kept_set, row_room}
-use Rattle.tree.specs.Planted.{ThreadRequires, Threaded, instance_from}
+use Rattle.tree.specs.Planted.{ThreadRequires, instance_from}
 use Rattle.tree.specs.Tree.{Submodels, definition_at, definition_below, instances}
 use Rattle.tree.proofs.Instances.{instance-path}
 
@@ -55,11 +55,6 @@ module _ {s : Recipe} {t₀ inst₀ : List ℕ} {n : ℕ} (R : ThreadRequires s 
       drop_all (x ∷ l) zero e = absurd (omega arith)
       drop_all (x ∷ l) (suc k) e = drop_all l k (omega arith)
 
-  pub thread-end : {t inst : List ℕ} {i : ℕ} → ThreadLoop s t₀ inst₀ t inst n i → i ≤ 0 → Threaded s t₀ inst₀ t inst n
-  thread-end {t} {inst} {i} g l =
-      let z : i ≡ 0 = omega arith in
-      record { kept = g.kept; long = g.long; others = g.others; same = λ j u. g.same j (omega arith) u; firsts = rw z at g.firsts }
-
   -- row i, the one before those that are threaded
   module _ {t inst : List ℕ} {k : ℕ} (i : ℕ) (g : ThreadLoop s t₀ inst₀ t inst n k) (q : k ≡ suc i) where
     abbrev D : ℕ
@@ -75,11 +70,8 @@ module _ {s : Recipe} {t₀ inst₀ : List ℕ} {n : ℕ} (R : ThreadRequires s 
     D-place : In D (places s)
     D-place = (definition-place s D D-in).0
 
-    pub row-room' : 6 * i + 6 ≤ length inst
+    row-room' : 6 * i + 6 ≤ length inst
     row-room' = omega (arith, row_low, R.room, g.long)
-
-    pub low : i < 64
-    low = omega (arith, row_low, R.few)
 
     definition-is : {d : ℕ} → d ≡ get_or inst (6 * i + 0) 0 → d ≡ D
     definition-is e = e ∙ g.others i 0 (omega arith) ∙ R.model i row_low

@@ -1,5 +1,6 @@
 -- The tree walk: what each way through it says.
 -- Assumes nothing.
+use Rattle.std.specs.Prelude.{None, Option, Some, is_some, IfSome}
 use Prim.Native.Nat.{◌*◌, ◌+◌, ◌-◌, ◌<◌, ◌≤◌, suc, zero, ℕ}
 use borrow.Author.Tests.{eq-eqb, eqb-false, eqb-true, le-ltb, leb-false, leb-true, lt-ltb, ltb-false, ltb-true, ne_eqb}
 use lib.Dec.{eqb, leb, ltb}
@@ -26,6 +27,7 @@ use Rattle.shadow.specs.Columns.{Linked, up_to}
 use Rattle.shadow.specs.Shadow.{Kept, Shadowed}
 use Rattle.shadow.proofs.Cells.{kept-all, kept_set, kept_then, row_room}
 use Rattle.shadow.proofs.Columns.{linked-over}
+use Rattle.tree.specs.declared.Size.{Size}
 use Rattle.tree.specs.Faults.{most_elements, most_instances}
 use Rattle.tree.specs.Numbers.{ahead, total, weight, weight_in}
 use Rattle.tree.specs.Tree.{most_depth}
@@ -345,6 +347,24 @@ answer-yes false x h e = absurd (true≢false e)
 abbrev pub Out : Recipe → ℕ → ℕ → ℕ → ℕ → List ℕ → List ℕ → List ℕ → List ℕ → Bool → ℕ → ℕ → Type 0
 Out s n d i e t inst t' inst' ok j x =
     (ok ≡ not (over n s d i e)) × ((ok ≡ true → Grown s n d i e t inst t' inst' j x) × WalkKeeps s t inst t' inst')
+
+-- the same of the code's answer
+abbrev pub Outcome : Recipe → ℕ → ℕ → ℕ → ℕ → List ℕ → List ℕ → List ℕ → List ℕ → Option Size → Type 0
+Outcome s n d i e t inst t' inst' r =
+    (is_some r ≡ not (over n s d i e)) × (IfSome r (λ z. Grown s n d i e t inst t' inst' z.insts z.elems) × WalkKeeps s t inst t' inst')
+
+module _ {s : Recipe} {n d i e : ℕ} {t inst t' inst' : List ℕ} where
+  pub went : {r : Option Size} {z : Size} → r ≡ Some z → Outcome s n d i e t inst t' inst' r → Out s n d i e t inst t' inst' true z.insts z.elems
+  went q o = let u = rw q at o in (u.0, ((λ y. u.1.0), u.1.1))
+
+  pub stopped : {r : Option Size} → r ≡ None → Outcome s n d i e t inst t' inst' r → Out s n d i e t inst t' inst' false 0 0
+  stopped q o = let u = rw q at o in (u.0, ((λ y. absurd (false≢true y)), u.1.1))
+
+  pub none-of : Out s n d i e t inst t' inst' false 0 0 → Outcome s n d i e t inst t' inst' None
+  none-of o = (o.0, (tt, o.1.1))
+
+  pub some-of : {j x : ℕ} → Out s n d i e t inst t' inst' true j x → Outcome s n d i e t inst t' inst' (Some (record { insts = j; elems = x }))
+  some-of o = (o.0, (o.1.0 refl, o.1.1))
 
 pub out-fail : {s : Recipe} {n d i e : ℕ} {t inst t' inst' : List ℕ} {ok : Bool} {j x : ℕ} → ok ≡ false → false ≡ not (over n s d i e) → WalkKeeps s t inst t' inst'
     → Out s n d i e t inst t' inst' ok j x

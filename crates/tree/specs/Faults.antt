@@ -1,8 +1,8 @@
 -- 01's "Verdicts", rows 7, 8 and 10: of each row the lowest place where it applies, if any.
 -- Assumes nothing.
-use Rattle.std.specs.Prelude.{ℕ, Bool, not, ◌&&◌, ◌||◌, List, [], ◌∷◌, length, ltb, eqb}
-use Rattle.std.proofs.Math.Option.{Option}
-use Rattle.names.specs.Lists.{any, first, is_some, holds}
+use Rattle.names.specs.declared.Reason.TheVariants.{TooLarge, Untargeted}
+use Rattle.std.specs.Prelude.{ℕ, Bool, not, ◌&&◌, ◌||◌, List, [], ◌∷◌, length, ltb, eqb, Option, is_some}
+use Rattle.names.specs.Lists.{any, first, holds}
 use Rattle.names.specs.Judging.{Row, row}
 use Rattle.recipe.specs.Records.{Recipe, is_owned, is_pointer, places, class}
 use Rattle.recipe.specs.Definitions.{owner_of}
@@ -47,8 +47,8 @@ fault₁₀ s = first (is_class_fault s) (places s)
 
 -- row 7, alone in the order of judging
 abbrev pub tree_rows : Recipe → List Row
-tree_rows s = row 7 (fault₇ s) ∷ []
+tree_rows s = row TooLarge (fault₇ s) ∷ []
 
 -- and row 8; row 10 comes behind row 9, with the marks
 abbrev pub target_rows : Recipe → List Row
-target_rows s = row 8 (fault₈ s) ∷ []
+target_rows s = row Untargeted (fault₈ s) ∷ []

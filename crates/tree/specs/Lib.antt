@@ -4,3 +4,4 @@ pub mod Faults
 pub mod Numbers
 pub mod Walk
 pub mod Planted
+pub mod Steps

@@ -1,7 +1,6 @@
 -- The tree in numbers: how many elements come before each.
 -- Assumes nothing.
-use Rattle.std.specs.Prelude.{◌+◌, suc, zero, ℕ, length, List, [], ◌∷◌}
-use Rattle.std.proofs.Math.Option.{none, some}
+use Rattle.std.specs.Prelude.{◌+◌, suc, zero, ℕ, length, List, [], ◌∷◌, None, Some}
 use Rattle.recipe.specs.Definitions.{elements, holder, main, model_of, submodels}
 use Rattle.recipe.specs.Records.{Recipe}
 use Rattle.shadow.specs.Columns.{order, up_to}
@@ -49,4 +48,4 @@ number_in s d x = first_below s d x.path + order s (definition_below s d x.path)
 
 -- the number of a port's or mark's target, counted from its instance's first element
 unfoldable pub reach : Recipe → ℕ → ℕ
-reach s p = elim (target s p) [ none ↦ 0 | some t ↦ number_in s (holder s p) t ]
+reach s p = elim (target s p) [ None ↦ 0 | Some t ↦ number_in s (holder s p) t ]

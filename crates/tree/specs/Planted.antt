@@ -4,8 +4,7 @@
 --      instance around it, 5 one more than the number of the next instance of the same definition, or 0
 --
 -- Assumes nothing.
-use Rattle.std.specs.Prelude.{◌*◌, ◌+◌, ◌<◌, ◌≤◌, suc, ℕ, eqb, drop, get_or, length, cond, List, [], ◌++◌, ◌∷◌, ◌≡◌}
-use Rattle.std.proofs.Math.Option.{none}
+use Rattle.std.specs.Prelude.{◌*◌, ◌+◌, ◌<◌, ◌≤◌, suc, ℕ, eqb, drop, get_or, length, cond, List, [], ◌++◌, ◌∷◌, ◌≡◌, None}
 use Rattle.names.specs.Lists.{In}
 use Rattle.recipe.specs.Definitions.{definitions, holder, main, submodels}
 use Rattle.recipe.specs.Records.{Recipe, places}
@@ -55,7 +54,7 @@ pub record Threaded (s : Recipe) (t₀ inst₀ t inst : List ℕ) (n : ℕ) : Ty
 -- rows 1 to 7 and 19 do not apply: the instances, the elements before each submodel's subtree, and each definition's first instance
 pub record Planted (s : Recipe) (t inst : List ℕ) (n : ℕ) : Type 0 where
   pub measured : Measured s t
-  pub row₇ : fault₇ s ≡ none
+  pub row₇ : fault₇ s ≡ None
   pub rows : InstanceRows s inst n
   pub offsets : (path : List ℕ) → In path (instances s) → (m : ℕ) → In m (submodels s (definition_at s path)) → get_or t (m + 7) 0 ≡ ahead s (holder s m) m
   pub firsts : Cell (definitions s) 8 (λ d. instance_from s d 0 (instances s)) t

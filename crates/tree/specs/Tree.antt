@@ -1,8 +1,6 @@
 -- 01's "Tree and targets". An instance is its path, the places of the submodel records from main downward; main's is the empty path.
 -- Assumes nothing.
-use Rattle.std.specs.Prelude.{ℕ, zero, suc, Bool, true, false, ◌&&◌, List, [], ◌∷◌, map, length, eqb}
-use Rattle.std.proofs.Math.Option
-use Rattle.std.proofs.Math.Option.{Option, none, some}
+use Rattle.std.specs.Prelude.{ℕ, zero, suc, Bool, true, false, ◌&&◌, List, [], ◌∷◌, map, length, eqb, None, Option, Some, option_map}
 use Rattle.names.specs.Lists.{In, keep, joined, same}
 use Rattle.names.specs.Names.{text, is_blank}
 use Rattle.recipe.specs.Records.{Recipe, is_element, submodel_field, way, target_field, parent_field, reference_field}
@@ -58,11 +56,11 @@ tree_elements s = nodes s (is_element s)
 
 -- "its parent .. looked for in that same instance"; none for a blank
 unfoldable pub parent_of : Recipe → Node → Option Node
-parent_of s x = Option.map (node x.path) (element_in s x.place (parent_field s x.place))
+parent_of s x = option_map (node x.path) (element_in s x.place (parent_field s x.place))
 
 -- "its .. reference .. looked for in that same instance": the element that it names; none for a blank
 unfoldable pub reference_of : Recipe → Node → Option Node
-reference_of s x = Option.map (node x.path) (element_in s x.place (reference_field s x.place))
+reference_of s x = option_map (node x.path) (element_in s x.place (reference_field s x.place))
 
 -- a node seen from the instance of the submodel record m, seen from the instance that holds m
 unfoldable pub through : ℕ → Node → Node
@@ -70,14 +68,14 @@ through m x = node (m ∷ x.path) x.place
 
 -- "A target by element name is that element": of definition d, named n
 unfoldable pub element_target : Recipe → ℕ → List ℕ → Option Node
-element_target s d n = Option.map (node []) (element_named s d n)
+element_target s d n = option_map (node []) (element_named s d n)
 
 -- "By port name it is that port's target": what t names by way w in an instance of d, where `port_target q` is the target of its port q
 unfoldable pub target_named : Recipe → (ℕ → Option Node) → ℕ → ℕ → List ℕ → Option Node
 target_named s port_target d w t =
     elim (eqb w 0) [
       | true ↦ element_target s d t
-      | false ↦ elim (port_named s d t) [ none ↦ none | some q ↦ port_target q ]
+      | false ↦ elim (port_named s d t) [ None ↦ None | Some q ↦ port_target q ]
     ]
 
 -- the submodels that a port or mark names, from its own definition downward: one
@@ -88,7 +86,7 @@ submodel_names s r = text (submodel_field s r) ∷ []
 unfoldable pub target_below : Recipe → (ℕ → Option Node) → ℕ → List (List ℕ) → ℕ → List ℕ → Option Node
 target_below s port_target d [] w t = target_named s port_target d w t
 target_below s port_target d (n ∷ ns) w t =
-    elim (submodel_named s d n) [ none ↦ none | some m ↦ Option.map (through m) (target_below s port_target (model_of s m) ns w t) ]
+    elim (submodel_named s d n) [ None ↦ None | Some m ↦ option_map (through m) (target_below s port_target (model_of s m) ns w t) ]
 
 -- "A port with a blank submodel names an element of its own definition, never a port": the target of the port or mark at r,
 -- seen from its instance, where `port_target q` is the target of a port q below
@@ -101,7 +99,7 @@ target_by s port_target r =
 
 -- "a port may lead to a further port in a submodel below": by at most n records
 unfoldable pub target_within : ℕ → Recipe → ℕ → Option Node
-target_within zero s r = none
+target_within zero s r = None
 target_within (suc n) s r = target_by s (target_within n s) r
 
 -- the target of the port or mark at r, seen from its instance; each record on the way stands in another definition

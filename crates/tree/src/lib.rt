@@ -1,8 +1,8 @@
 // The tree of a recipe: its instances, and the refusal 7.
-// For the floors above: plant, and the columns of an instance's row. They take the name width w, the shadow t and, for the rows of the instances, inst.
+// For the floors above: plant, the columns of an instance's row, and InstancesOf, the instances of one definition. They take the name width w, the shadow t and, for the rows of the instances, inst.
 #![tactic(auto)]
 
-ghost use Rattle.std.specs.Prelude.{◌≡◌, true, false, not, [], ◌∷◌, ◌*◌, ◌+◌, ◌≤◌, ◌<◌, length, get_or};
+ghost use Rattle.std.specs.Prelude.{◌≡◌, not, is_some, IfSome, [], ◌∷◌, ◌*◌, ◌+◌, ◌≤◌, ◌<◌, length, get_or};
 ghost use Rattle.std.proofs.lemmas.List.Edits.{sets};
 ghost use Rattle.recipe.specs.Records.{recipe_at};
 ghost use Rattle.shadow.specs.Columns.{Measured};
@@ -33,22 +33,53 @@ const MOST_INSTANCES: usize = 64;
 
 const MOST_ELEMENTS: usize = 1024;
 
-// What a walk answers: whether the tree fits, and how many instances and elements there are with those before.
+// How many instances and elements there are: of a tree, or of a walk with those before it.
 #[derive(Clone, Copy)]
-pub struct Walked {
-    pub ok: bool,
+pub struct Size {
     pub insts: usize,
     pub elems: usize,
 }
 
-// The answer of a walk.
-fn walk_answer(ok: bool, insts: usize, elems: usize) -> Walked
-    ensures { (result.ok ≡ ok) × ((result.insts ≡ insts) × (result.elems ≡ elems)) }
-{
-    Walked {
-        ok: ok,
-        insts: insts,
-        elems: elems,
+// The instances of one definition, in tree order, along their thread: the number of each one's row.
+#[derive(Clone, Copy)]
+pub struct InstancesOf<'a> {
+    pub rows: &'a [u16],
+    // One more than the number of the next one, or 0 behind the last.
+    pub next: usize,
+}
+
+impl<'a> Iterator for InstancesOf<'a> {
+    type Item = usize;
+
+    ghost use Rattle.tree.specs.Steps.{StepFits, StepsTo, instances_left};
+
+    ghost can_next = { StepFits };
+
+    ghost next_gives = { StepsTo };
+
+    ghost remaining = { instances_left };
+
+    fn next(&mut self) -> Option<usize> {
+        if self.next == 0 {
+            return None;
+        }
+        let i = self.next - 1;
+        self.next = cell(self.rows, 6 * i, NEXT_SAME);
+        Some(i)
+    }
+}
+
+impl<'a> InstancesOf<'a> {
+    // Those of the definition that the record at p stands in, from the first on.
+    pub fn record(t: &[u16], inst: &'a [u16], p: usize) -> InstancesOf<'a>
+        requires { (p < length t.now) × (get_or t.now (p + 0) 0 + 8 < length t.now) }
+        ensures { (result.rows.now ≡ inst.now) × (result.next ≡ get_or t.now (get_or t.now (p + 0) 0 + 8) 0) }
+    {
+        let d = cell(t, p, shadow::DEFINITION_OF);
+        InstancesOf {
+            rows: inst,
+            next: cell(t, d, shadow::FIRST_INSTANCE),
+        }
     }
 }
 
@@ -65,7 +96,7 @@ fn put_row(inst: &mut [u16], i: usize, d: usize, depth: usize, e: usize, sub: us
     set_cell(inst, 6 * i, NEXT_SAME, 0);
 }
 
-// The tree below the instance of row i, which is written: the rows behind it, its elements numbered from e on, and the offsets of its submodels; `left` deep at most.
+// The tree below the instance of row i, which is written, unless it does not fit: the rows behind it, its elements numbered from e on, and the offsets of its submodels; `left` deep at most.
 fn walk(
     s: &[u8],
     w: usize,
@@ -74,9 +105,9 @@ fn walk(
     i: usize,
     e: usize,
     left: usize,
-) -> Walked
+) -> Option<Size>
     requires { WalkRequires (recipe_at w s.now) t.old inst.old i e left }
-    ensures { (result.ok ≡ not (over left (recipe_at w s.now) (get_or inst.old (6 * i + 0) 0) i e)) × ((result.ok ≡ true → Grown (recipe_at w s.now) left (get_or inst.old (6 * i + 0) 0) i e t.old inst.old t.new inst.new result.insts result.elems) × WalkKeeps (recipe_at w s.now) t.old inst.old t.new inst.new) }
+    ensures { (is_some result ≡ not (over left (recipe_at w s.now) (get_or inst.old (6 * i + 0) 0) i e)) × (IfSome result (λ n. Grown (recipe_at w s.now) left (get_or inst.old (6 * i + 0) 0) i e t.old inst.old t.new inst.new n.insts n.elems) × WalkKeeps (recipe_at w s.now) t.old inst.old t.new inst.new) }
 {
     let d = cell(inst, 6 * i, DEFINITION);
     let mut j = i + 1;
@@ -86,20 +117,16 @@ fn walk(
         let m = cell(t, p, shadow::MODEL);
         let c = cell(t, m, shadow::ELEMENT_COUNT);
         if (left == 0) | (j >= MOST_INSTANCES) | (c > MOST_ELEMENTS - x) {
-            return walk_answer(false, 0, 0);
+            return None;
         }
         set_cell(t, p, shadow::ELEMENT_OFFSET, x - e);
         put_row(inst, j, m, MOST_DEPTH - (left - 1), x, p, i);
-        let r = walk(s, w, t, inst, j, x, left - 1);
-        let ok = r.ok;
-        if !ok {
-            return walk_answer(false, 0, 0);
-        }
-        j = r.insts;
-        x = r.elems;
+        let n = walk(s, w, t, inst, j, x, left - 1)?;
+        j = n.insts;
+        x = n.elems;
         p = shadow::next_submodel(s, w, t, p);
     }
-    walk_answer(true, j, x)
+    Some(Size { insts: j, elems: x })
 }
 
 // Threads the n instances of the recipe s, of name width w, from the last to the first: each definition's first instance, and each instance's next one of its definition.
@@ -107,9 +134,7 @@ fn thread_instances(s: &[u8], w: usize, t: &mut [u16], inst: &mut [u16], n: usiz
     requires { ThreadRequires (recipe_at w s.now) t.old inst.old n }
     ensures { Threaded (recipe_at w s.now) t.old inst.old t.new inst.new n }
 {
-    let mut i = n;
-    while i > 0 {
-        i -= 1;
+    for i in (0..n).rev() {
         let d = cell(inst, 6 * i, DEFINITION);
         let next = cell(t, d, shadow::FIRST_INSTANCE);
         set_cell(inst, 6 * i, NEXT_SAME, next);
@@ -117,42 +142,17 @@ fn thread_instances(s: &[u8], w: usize, t: &mut [u16], inst: &mut [u16], n: usiz
     }
 }
 
-// What planting answers: whether the tree is too large, and how many instances and elements it has.
-#[derive(Clone, Copy)]
-pub struct Planting {
-    pub large: bool,
-    pub insts: usize,
-    pub elems: usize,
-}
-
-// The answer of planting.
-fn plant_answer(large: bool, insts: usize, elems: usize) -> Planting
-    ensures { (result.large ≡ large) × ((result.insts ≡ insts) × (result.elems ≡ elems)) }
-{
-    Planting {
-        large: large,
-        insts: insts,
-        elems: elems,
-    }
-}
-
-// Row 7; the rows of the instances, the offsets of the submodels, and the instances of each definition.
-pub fn plant(s: &[u8], w: usize, t: &mut [u16], inst: &mut [u16]) -> Planting
+// The size of a tree that row 7 lets pass; the rows of the instances, the offsets of the submodels, and the instances of each definition.
+pub fn plant(s: &[u8], w: usize, t: &mut [u16], inst: &mut [u16]) -> Option<Size>
     requires { Measured (recipe_at w s.now) t.old × ((0 < length s.now) × (6 * 64 ≤ length inst.old)) }
-    ensures { (result.large ≡ is_too_large (recipe_at w s.now)) × ((result.large ≡ false → Planted (recipe_at w s.now) t.new inst.new result.insts × (result.elems ≡ length (tree_elements (recipe_at w s.now)))) × ((length t.new ≡ length t.old) × (length inst.new ≡ length inst.old))) }
+    ensures { (is_some result ≡ not (is_too_large (recipe_at w s.now))) × (IfSome result (λ n. Planted (recipe_at w s.now) t.new inst.new n.insts × (n.elems ≡ length (tree_elements (recipe_at w s.now)))) × ((length t.new ≡ length t.old) × (length inst.new ≡ length inst.old))) }
 {
     if cell(t, 0, shadow::ELEMENT_COUNT) > MOST_ELEMENTS {
-        return plant_answer(true, 0, 0);
+        return None;
     }
     put_row(inst, 0, 0, 0, 0, 0, 0);
-    let r = walk(s, w, t, inst, 0, 0, MOST_DEPTH);
-    let grown = r.ok;
-    let n = r.insts;
-    let x = r.elems;
-    if !grown {
-        return plant_answer(true, 0, 0);
-    }
+    let n = walk(s, w, t, inst, 0, 0, MOST_DEPTH)?;
     shadow::clear_cells(s, w, t, shadow::FIRST_INSTANCE);
-    thread_instances(s, w, t, inst, n);
-    plant_answer(false, n, x)
+    thread_instances(s, w, t, inst, n.insts);
+    Some(n)
 }

@@ -1,29 +1,34 @@
 -- `compose::compose` meets its contract: rows 1 to 6 or 19 refuse, or the tree is judged.
 -- Assumes nothing.
-use mathlib.Core.Path.{refl}
 use mathlib.Core.List.{◌++◌}
 use native.Mathlib.Omega.{arith}
-use Rattle.names.specs.Judging.{are_refusals}
-use Rattle.names.proofs.Judging.{hand_first, hand-second, handed-none, row-none}
+use Rattle.std.proofs.lemmas.Result.{IfOk-at_ok, err_from_is_err_and}
+use Rattle.names.proofs.Judging.{row-none, rows-behind, rows-pass, rows-refuse}
+use Rattle.recipe.specs.Records.{recipe_at}
 use Rattle.recipe.specs.Reading.{form_rows, naming_rows}
-use Rattle.tree.specs.Faults.{tree_rows, target_rows}
-use Rattle.marks.specs.Faults.{mark_rows, reference_rows}
+use Rattle.compose.specs.Rows.{refusal_of}
 use Rattle.compose.proofs.Judging.{some_bytes}
 use Rattle.compose.proofs.compose.Goals as goal
 
-pub read-a-requires : goal.read-a-requires
-read-a-requires c = (c.requires.0, c.requires.1.cells)
+pub read-requires : goal.read-requires
+read-requires c = (c.requires.0, c.requires.1.cells)
 
-pub returns-then-a-ne0 : goal.returns-then-a-ne0
-returns-then-a-ne0 c =
-    rw c.answer.ensures (hand_first (form_rows (record { width = c.args.w; bytes = c.args.s.now }) ++ naming_rows (record { width = c.args.w; bytes = c.args.s.now })) (tree_rows (record { width = c.args.w; bytes = c.args.s.now }) ++ (target_rows (record { width = c.args.w; bytes = c.args.s.now }) ++ (mark_rows (record { width = c.args.w; bytes = c.args.s.now }) ++ reference_rows (record { width = c.args.w; bytes = c.args.s.now })))) c.read-a.ensures.0 c.if-a-ne0.true, λ z. absurd (c.if-a-ne0.true z))
+pub returns-in_err-read : goal.returns-in_err-read
+unfolding refusal_of
+returns-in_err-read c =
+    let p = err_from_is_err_and c.from_residual.result c.from_residual.ensures.1 in
+    let R = recipe_at c.args.w c.args.s.now in
+    rw (p.1, p.2) (rows-refuse (form_rows R ++ naming_rows R) c.read.ensures.0 _ c.in_err-read.was, tt)
 
 pub judge_tree-requires : goal.judge_tree-requires
-unfolding are_refusals
 judge_tree-requires c =
-    (c.read-a.ensures.1 c.if-a-ne0.false, (some_bytes (record { width = c.args.w; bytes = c.args.s.now }) (row-none 1 (form_rows (record { width = c.args.w; bytes = c.args.s.now }) ++ naming_rows (record { width = c.args.w; bytes = c.args.s.now })) (handed-none (form_rows (record { width = c.args.w; bytes = c.args.s.now }) ++ naming_rows (record { width = c.args.w; bytes = c.args.s.now })) refl c.read-a.ensures.0 c.if-a-ne0.false)), record { cells = omega (arith, c.requires.1.cells, c.read-a.auto.t); insts = c.requires.1.insts; elems = c.requires.1.elems }))
+    let R = recipe_at c.args.w c.args.s.now in
+    let a = rows-pass (form_rows R ++ naming_rows R) c.read.ensures.0 c.in_ok-read.was in
+    (IfOk-at_ok _ c.in_ok-read.was c.read.ensures.1, (some_bytes R (row-none 1 (form_rows R ++ naming_rows R) a), record { cells = omega (arith, c.requires.1.cells, c.read.auto.t); insts = c.requires.1.insts; elems = c.requires.1.elems }))
 
 pub returns : goal.returns
-unfolding are_refusals
+unfolding refusal_of
 returns c =
-    (hand-second (form_rows (record { width = c.args.w; bytes = c.args.s.now }) ++ naming_rows (record { width = c.args.w; bytes = c.args.s.now })) (tree_rows (record { width = c.args.w; bytes = c.args.s.now }) ++ (target_rows (record { width = c.args.w; bytes = c.args.s.now }) ++ (mark_rows (record { width = c.args.w; bytes = c.args.s.now }) ++ reference_rows (record { width = c.args.w; bytes = c.args.s.now })))) (handed-none (form_rows (record { width = c.args.w; bytes = c.args.s.now }) ++ naming_rows (record { width = c.args.w; bytes = c.args.s.now })) refl c.read-a.ensures.0 c.if-a-ne0.false) c.judge_tree.ensures.0, c.judge_tree.ensures.1)
+    let R = recipe_at c.args.w c.args.s.now in
+    let a = rows-pass (form_rows R ++ naming_rows R) c.read.ensures.0 c.in_ok-read.was in
+    (rows-behind (form_rows R ++ naming_rows R) _ a c.judge_tree.ensures.0, c.judge_tree.ensures.1)

@@ -1,64 +1,70 @@
 -- `compose::judge_marks` meets its contract: rows 9 to 12 and 20, row by row.
 -- Assumes nothing.
-use Rattle.compose.proofs.Columns.{factors-ready}
 use mathlib.Core.Path.{◌∙◌, refl, sym}
-use Rattle.names.proofs.Judging.{no_rows, not-zero, row-hit, row-miss}
-use Rattle.names.proofs.Scans.{found_nothing}
+use Rattle.std.proofs.lemmas.Result.{err_from_is_err_and}
+use Rattle.names.specs.declared.Reason.TheVariants.{Conflicting, Lost, Misclassed, Misfactored, Misreferred}
+use Rattle.names.proofs.Judging.{last-passes, row-behind, row-passed, row-refuses}
 use Rattle.elements.proofs.Elements.{known}
-use Rattle.compose.proofs.Columns.{composed, gones-stepped, no_steps, ready, rows-listed, rows-stepped, wide-still}
+use Rattle.compose.proofs.Columns.{composed, factors-ready, gones-stepped, no_steps, ready, rows-listed, rows-stepped, wide-still}
 use Rattle.compose.proofs.judge_marks.Goals as goal
 
 pub first_conflict-requires : goal.first_conflict-requires
 first_conflict-requires c = (ready c.requires.0, refl)
 
-pub returns-in-At : goal.returns-in-At
-returns-in-At c = (c.refuse.ensures ∙ row-hit 9 _ _ (sym c.in-At.is ∙ c.first_conflict.ensures.0), λ z. not-zero _ 8 _ c.refuse.ensures z)
+pub returns-in_err-judge : goal.returns-in_err-judge
+returns-in_err-judge c =
+    let p = err_from_is_err_and c.from_residual.result c.from_residual.ensures.1 in
+    rw (p.1, p.2) (row-refuses Conflicting c.first_conflict.ensures.0 c.judge.ensures _ c.in_err-judge.was, tt)
 
 pub first_misclassed-requires : goal.first_misclassed-requires
 first_misclassed-requires c = c.requires.0.aimed
 
-pub returns-in-At-first_misclassed : goal.returns-in-At-first_misclassed
-returns-in-At-first_misclassed c =
-    (c.refuse-in-At-first_misclassed.ensures ∙ (row-hit 10 _ _ (sym c.in-At-first_misclassed.is ∙ c.first_misclassed.ensures) ∙ row-miss 9 _ _ (sym c.in_default.is ∙ c.first_conflict.ensures.0)), λ z. not-zero _ 9 _ c.refuse-in-At-first_misclassed.ensures z)
+pub returns-in_err-judge-2 : goal.returns-in_err-judge-2
+returns-in_err-judge-2 c =
+    let p = err_from_is_err_and c.from_residual-in_err-judge-2.result c.from_residual-in_err-judge-2.ensures.1 in
+    let a = row-passed Conflicting c.first_conflict.ensures.0 c.judge.ensures c.in_ok-judge.was in
+    rw (p.1, p.2) (row-behind Conflicting _ a (row-refuses Misclassed c.first_misclassed.ensures c.judge-2.ensures _ c.in_err-judge-2.was), tt)
 
 pub list_elements-requires : goal.list_elements-requires
 list_elements-requires c = (ready c.requires.0, c.requires.1.1)
 
 pub mark_gone-requires : goal.mark_gone-requires
 mark_gone-requires c =
-    let z = c.first_conflict.ensures.1 c.in_default.is in (known c.requires.0, (z.0, (z.1, (rows-listed c.requires.0 c.args.el.now _ c.requires.1.1 c.list_elements.ensures.1 c.list_elements.ensures.0, c.requires.1.0))))
+    let a = row-passed Conflicting c.first_conflict.ensures.0 c.judge.ensures c.in_ok-judge.was in
+    let z = c.first_conflict.ensures.1 (c.first_conflict.ensures.0 ∙ a) in
+    (known c.requires.0, (z.0, (z.1, (rows-listed c.requires.0 c.args.el.now _ c.requires.1.1 c.list_elements.ensures.1 c.list_elements.ensures.0, c.requires.1.0))))
 
 pub first_lost-requires : goal.first_lost-requires
 first_lost-requires c =
     (ready c.requires.0, (c.mark_gone.ensures.0, wide-still c.requires.0 c.args.el.now _ c.requires.1.1 c.list_elements.ensures.1 c.list_elements.ensures.0 _ c.mark_gone.ensures.1))
 
-pub returns-in-At-first_lost : goal.returns-in-At-first_lost
-returns-in-At-first_lost c =
-    (c.refuse-in-At-first_lost.ensures ∙ (row-hit 11 _ _ (sym c.in-At-first_lost.is ∙ c.first_lost.ensures) ∙ (row-miss 10 _ _ (sym c.in_default-first_misclassed.is ∙ c.first_misclassed.ensures) ∙ row-miss 9 _ _ (sym c.in_default.is ∙ c.first_conflict.ensures.0))), λ z. not-zero _ 10 _ c.refuse-in-At-first_lost.ensures z)
+pub returns-in_err-judge-3 : goal.returns-in_err-judge-3
+returns-in_err-judge-3 c =
+    let p = err_from_is_err_and c.from_residual-in_err-judge-3.result c.from_residual-in_err-judge-3.ensures.1 in
+    let a = row-passed Conflicting c.first_conflict.ensures.0 c.judge.ensures c.in_ok-judge.was in
+    let b = row-passed Misclassed c.first_misclassed.ensures c.judge-2.ensures c.in_ok-judge-2.was in
+    rw (p.1, p.2) (row-behind Conflicting _ a (row-behind Misclassed _ b (row-refuses Lost c.first_lost.ensures c.judge-3.ensures _ c.in_err-judge-3.was)), tt)
 
 pub fill_steps-requires : goal.fill_steps-requires
 fill_steps-requires c =
-    (ready c.requires.0, (found_nothing (sym c.in_default.is ∙ c.first_conflict.ensures.0), (no_steps c.requires.0 c.args.el.now _ c.requires.1.1 c.list_elements.ensures.1 c.list_elements.ensures.0 _ c.mark_gone.ensures.1, wide-still c.requires.0 c.args.el.now _ c.requires.1.1 c.list_elements.ensures.1 c.list_elements.ensures.0 _ c.mark_gone.ensures.1)))
+    let a = row-passed Conflicting c.first_conflict.ensures.0 c.judge.ensures c.in_ok-judge.was in
+    (ready c.requires.0, (a, (no_steps c.requires.0 c.args.el.now _ c.requires.1.1 c.list_elements.ensures.1 c.list_elements.ensures.0 _ c.mark_gone.ensures.1, wide-still c.requires.0 c.args.el.now _ c.requires.1.1 c.list_elements.ensures.1 c.list_elements.ensures.0 _ c.mark_gone.ensures.1)))
 
 pub first_misreferred-requires : goal.first_misreferred-requires
 first_misreferred-requires c =
     (known c.requires.0, (rows-stepped c.requires.0 c.args.el.now _ c.requires.1.1 c.list_elements.ensures.1 c.list_elements.ensures.0 _ c.mark_gone.ensures.1 c.mark_gone.ensures.0 _ c.fill_steps.ensures.1, (gones-stepped c.requires.0 c.args.el.now _ c.requires.1.1 c.list_elements.ensures.1 c.list_elements.ensures.0 _ c.mark_gone.ensures.1 c.mark_gone.ensures.0 _ c.fill_steps.ensures.1, (c.fill_steps.ensures.0, c.requires.1.0))))
 
-pub returns-in-At-first_misreferred : goal.returns-in-At-first_misreferred
-returns-in-At-first_misreferred c =
-    (c.refuse-in-At-first_misreferred.ensures ∙ (row-hit 12 _ _ (sym c.in-At-first_misreferred.is ∙ c.first_misreferred.ensures.0) ∙ (row-miss 11 _ _ (sym c.in_default-first_lost.is ∙ c.first_lost.ensures) ∙ (row-miss 10 _ _ (sym c.in_default-first_misclassed.is ∙ c.first_misclassed.ensures) ∙ row-miss 9 _ _ (sym c.in_default.is ∙ c.first_conflict.ensures.0)))), λ z. not-zero _ 11 _ c.refuse-in-At-first_misreferred.ensures z)
+pub returns-in_err-judge-4 : goal.returns-in_err-judge-4
+returns-in_err-judge-4 c =
+    let p = err_from_is_err_and c.from_residual-in_err-judge-4.result c.from_residual-in_err-judge-4.ensures.1 in
+    let a = row-passed Conflicting c.first_conflict.ensures.0 c.judge.ensures c.in_ok-judge.was in
+    let b = row-passed Misclassed c.first_misclassed.ensures c.judge-2.ensures c.in_ok-judge-2.was in
+    let d = row-passed Lost c.first_lost.ensures c.judge-3.ensures c.in_ok-judge-3.was in
+    rw (p.1, p.2) (row-behind Conflicting _ a (row-behind Misclassed _ b (row-behind Lost _ d (row-refuses Misreferred c.first_misreferred.ensures.0 c.judge-4.ensures _ c.in_err-judge-4.was))), tt)
 
 pub first_misfactored-requires : goal.first_misfactored-requires
 first_misfactored-requires c =
     factors-ready c.requires.0 c.args.el.now _ c.requires.1.1 c.list_elements.ensures.1 c.list_elements.ensures.0 _ c.mark_gone.ensures.1 c.mark_gone.ensures.0 _ c.fill_steps.ensures.1 _ c.fill_steps.ensures.0 c.first_misreferred.ensures.1.1
-
-pub shape_of-el-in-At-first_misfactored : goal.shape_of-el-in-At-first_misfactored
-shape_of-el-in-At-first_misfactored c =
-    c.first_misreferred.ensures.1.1.long ∙ (c.fill_steps.ensures.1.long ∙ (c.mark_gone.ensures.1.long ∙ c.list_elements.ensures.1))
-
-pub returns-in-At-first_misfactored : goal.returns-in-At-first_misfactored
-returns-in-At-first_misfactored c =
-    (c.refuse-in-At-first_misfactored.ensures ∙ (row-hit 20 _ _ (sym c.in-At-first_misfactored.is ∙ c.first_misfactored.ensures) ∙ (row-miss 12 _ _ (sym c.in_default-first_misreferred.is ∙ c.first_misreferred.ensures.0) ∙ (row-miss 11 _ _ (sym c.in_default-first_lost.is ∙ c.first_lost.ensures) ∙ (row-miss 10 _ _ (sym c.in_default-first_misclassed.is ∙ c.first_misclassed.ensures) ∙ row-miss 9 _ _ (sym c.in_default.is ∙ c.first_conflict.ensures.0))))), λ z. not-zero _ 19 _ c.refuse-in-At-first_misfactored.ensures z)
 
 pub shape_of-el : goal.shape_of-el
 shape_of-el c =
@@ -66,4 +72,11 @@ shape_of-el c =
 
 pub returns : goal.returns
 returns c =
-    (c.refuse-2.ensures ∙ (no_rows ∙ (row-miss 20 _ _ (sym c.in_default-first_misfactored.is ∙ c.first_misfactored.ensures) ∙ (row-miss 12 _ _ (sym c.in_default-first_misreferred.is ∙ c.first_misreferred.ensures.0) ∙ (row-miss 11 _ _ (sym c.in_default-first_lost.is ∙ c.first_lost.ensures) ∙ (row-miss 10 _ _ (sym c.in_default-first_misclassed.is ∙ c.first_misclassed.ensures) ∙ row-miss 9 _ _ (sym c.in_default.is ∙ c.first_conflict.ensures.0)))))), λ z. composed c.requires.0 c.args.el.now _ c.requires.1.1 c.list_elements.ensures.1 c.list_elements.ensures.0 _ c.mark_gone.ensures.1 c.mark_gone.ensures.0 _ c.fill_steps.ensures.1 _ (found_nothing (sym c.in_default.is ∙ c.first_conflict.ensures.0)) (found_nothing (sym c.in_default-first_misclassed.is ∙ c.first_misclassed.ensures)) (found_nothing (sym c.in_default-first_lost.is ∙ c.first_lost.ensures)) (found_nothing (sym c.in_default-first_misreferred.is ∙ c.first_misreferred.ensures.0)) (found_nothing (sym c.in_default-first_misfactored.is ∙ c.first_misfactored.ensures)) c.requires.1.0 c.fill_steps.ensures.0 c.first_misreferred.ensures.1.0 c.first_misreferred.ensures.1.1)
+    let a = row-passed Conflicting c.first_conflict.ensures.0 c.judge.ensures c.in_ok-judge.was in
+    let b = row-passed Misclassed c.first_misclassed.ensures c.judge-2.ensures c.in_ok-judge-2.was in
+    let d = row-passed Lost c.first_lost.ensures c.judge-3.ensures c.in_ok-judge-3.was in
+    let e = row-passed Misreferred c.first_misreferred.ensures.0 c.judge-4.ensures c.in_ok-judge-4.was in (
+      row-behind Conflicting _ a (row-behind Misclassed _ b (row-behind Lost _ d (row-behind Misreferred _ e (rw (← c.first_misfactored.ensures) c.judge-5.ensures)))),
+      last-passes Misfactored _ c.judge-5.ensures
+          (λ z. composed c.requires.0 c.args.el.now _ c.requires.1.1 c.list_elements.ensures.1 c.list_elements.ensures.0 _ c.mark_gone.ensures.1 c.mark_gone.ensures.0 _ c.fill_steps.ensures.1 _ a b d e (sym c.first_misfactored.ensures ∙ z) c.requires.1.0 c.fill_steps.ensures.0 c.first_misreferred.ensures.1.0 c.first_misreferred.ensures.1.1),
+    )

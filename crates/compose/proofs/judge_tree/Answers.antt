@@ -1,30 +1,59 @@
 -- `compose::judge_tree` meets its contract: row 7 refuses, or row 8, or the marks are judged.
 -- Assumes nothing.
-use mathlib.Core.Path.{◌∙◌, sym}
+use mathlib.Core.Path.{ap, sym, ◌∙◌}
 use native.Mathlib.Omega.{arith}
-use Rattle.names.proofs.Judging.{row-hit, row-miss}
+use Rattle.std.specs.Result.{result_err}
+use Rattle.std.proofs.lemmas.Option.{MatchOption-at_some}
+use Rattle.std.proofs.lemmas.Result.{IfOk-at_ok, err_from_is_err_and}
+use Rattle.names.specs.declared.Reason.TheVariants.{TooLarge, Untargeted}
+use Rattle.names.proofs.Judging.{row-behind, row-passed, row-refuses}
+use Rattle.recipe.specs.Records.{recipe_at}
 use Rattle.targets.proofs.Targeting.{targeted}
-use Rattle.compose.proofs.Judging.{large, small}
+use Rattle.compose.proofs.Judging.{is-planted, not-planted}
 use Rattle.compose.proofs.judge_tree.Goals as goal
 
-pub plant-k-requires : goal.plant-k-requires
-plant-k-requires c = (c.requires.0, (c.requires.1.0, omega (arith, c.requires.1.1.insts)))
+pub plant-requires : goal.plant-requires
+plant-requires c = (c.requires.0, (c.requires.1.0, omega (arith, c.requires.1.1.insts)))
 
-pub returns-then-large : goal.returns-then-large
-returns-then-large c =
-    rw (c.answer.ensures, c.refuse.ensures) (row-hit 7 _ _ (large (record { width = c.args.w; bytes = c.args.s.now }) (sym c.if-large.true ∙ c.plant-k.ensures.0)), λ z. absurd (omega (arith, z)))
+pub returns-in_err-n : goal.returns-in_err-n
+returns-in_err-n c =
+    let p = err_from_is_err_and c.from_residual.result c.from_residual.ensures.1 in
+    rw (p.1, p.2) (not-planted (recipe_at c.args.w c.args.s.now) _ _ c.plant.ensures.0 (sym c.ok_or.ensures.value ∙ c.in_err-n.was), tt)
 
 pub first_untargeted-requires : goal.first_untargeted-requires
-first_untargeted-requires c = (c.plant-k.ensures.1.0 c.if-large.false).0.measured
+first_untargeted-requires c =
+    let R = recipe_at c.args.w c.args.s.now in
+    let k = is-planted R _ c.plant.ensures.0 (sym c.ok_or.ensures.value ∙ c.in_ok-n.was) in
+    (MatchOption-at_some _ _ _ k.0 c.plant.ensures.1.0).0.measured
 
-pub returns-in-At : goal.returns-in-At
-returns-in-At c =
-    rw (c.answer-in-At.ensures, c.refuse-in-At.ensures) (row-hit 8 _ _ (sym c.in-At.is ∙ c.first_untargeted.ensures.0) ∙ row-miss 7 _ _ (small (record { width = c.args.w; bytes = c.args.s.now }) (sym c.if-large.false ∙ c.plant-k.ensures.0)), λ z. absurd (omega (arith, z)))
+pub returns-in_err-judge : goal.returns-in_err-judge
+returns-in_err-judge c =
+    let p = err_from_is_err_and c.from_residual-in_err-judge.result c.from_residual-in_err-judge.ensures.1 in
+    let R = recipe_at c.args.w c.args.s.now in
+    let k = is-planted R _ c.plant.ensures.0 (sym c.ok_or.ensures.value ∙ c.in_ok-n.was) in
+    rw (p.1, p.2) (row-behind TooLarge _ k.1 (row-refuses Untargeted c.first_untargeted.ensures.0 c.judge.ensures _ c.in_err-judge.was), tt)
 
-pub judge_marks-a-requires : goal.judge_marks-a-requires
-judge_marks-a-requires c =
-    let u = c.first_untargeted.ensures.1 in let a = u.0 c.in_default.is in (targeted (c.plant-k.ensures.1.0 c.if-large.false).0 u.1 a.0 a.1, ((c.plant-k.ensures.1.0 c.if-large.false).1, omega (arith, c.requires.1.1.elems)))
+pub judge_marks-requires : goal.judge_marks-requires
+judge_marks-requires c =
+    let R = recipe_at c.args.w c.args.s.now in
+    let k = is-planted R _ c.plant.ensures.0 (sym c.ok_or.ensures.value ∙ c.in_ok-n.was) in
+    let a = row-passed Untargeted c.first_untargeted.ensures.0 c.judge.ensures c.in_ok-judge.was in
+    let g = MatchOption-at_some _ _ _ k.0 c.plant.ensures.1.0 in
+    let u = c.first_untargeted.ensures.1 in
+    let v = u.0 (c.first_untargeted.ensures.0 ∙ a) in
+    (targeted g.0 u.1 v.0 v.1, (g.1, omega (arith, c.requires.1.1.elems)))
+
+pub returns-in_err-judge_marks : goal.returns-in_err-judge_marks
+returns-in_err-judge_marks c =
+    let p = err_from_is_err_and c.from_residual-in_err-judge_marks.result c.from_residual-in_err-judge_marks.ensures.1 in
+    let R = recipe_at c.args.w c.args.s.now in
+    let k = is-planted R _ c.plant.ensures.0 (sym c.ok_or.ensures.value ∙ c.in_ok-n.was) in
+    let a = row-passed Untargeted c.first_untargeted.ensures.0 c.judge.ensures c.in_ok-judge.was in
+    rw (p.1, p.2) (row-behind TooLarge _ k.1 (row-behind Untargeted _ a (sym (ap result_err c.in_err-judge_marks.was) ∙ c.judge_marks.ensures.0)), tt)
 
 pub returns : goal.returns
 returns c =
-    rw c.answer-2.ensures (c.judge_marks-a.ensures.0 ∙ (row-miss 8 _ _ (sym c.in_default.is ∙ c.first_untargeted.ensures.0) ∙ row-miss 7 _ _ (small (record { width = c.args.w; bytes = c.args.s.now }) (sym c.if-large.false ∙ c.plant-k.ensures.0))), λ z. c.judge_marks-a.ensures.1 z)
+    let R = recipe_at c.args.w c.args.s.now in
+    let k = is-planted R _ c.plant.ensures.0 (sym c.ok_or.ensures.value ∙ c.in_ok-n.was) in
+    let a = row-passed Untargeted c.first_untargeted.ensures.0 c.judge.ensures c.in_ok-judge.was in
+    (row-behind TooLarge _ k.1 (row-behind Untargeted _ a (sym (ap result_err c.in_ok-judge_marks.was) ∙ c.judge_marks.ensures.0)), IfOk-at_ok _ c.in_ok-judge_marks.was c.judge_marks.ensures.1)

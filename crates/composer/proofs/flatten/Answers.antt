@@ -1,23 +1,26 @@
 -- `composer::flatten` meets its contract: a refusal of composing is handed on, else the room decides.
 -- Assumes nothing.
-use mathlib.Core.Path.{◌∙◌, refl}
-use Rattle.names.specs.Judging.{are_refusals}
-use Rattle.names.proofs.Judging.{handed-none}
-use Rattle.compose.specs.Rows.{refusal_rows}
+use mathlib.Core.Path.{ap, sym, ◌∙◌}
+use Rattle.std.specs.Result.{result_err}
+use Rattle.std.proofs.lemmas.Result.{IfOk-at_ok}
+use Rattle.names.proofs.Judging.{rows-pass}
+use Rattle.compose.specs.Rows.{refusal_of, refusal_rows}
 use Rattle.composer.specs.Verdicts.{name_width, recipe_of}
 use Rattle.composer.proofs.Joining.{compose-keeps, compose-refuses}
 use Rattle.composer.proofs.flatten.Goals as goal
 
-pub returns-then-number-ne0 : goal.returns-then-number-ne0
+pub returns-in-Err : goal.returns-in-Err
 unfolding recipe_of name_width
-returns-then-number-ne0 c =
-    (c.refusal.ensures ∙ compose-refuses (recipe_of c.args.recipe.now) _ _ c.args.table.now c.compose-c.ensures.0 c.if-number-ne0.true, compose-keeps (recipe_of c.args.recipe.now) _ _ c.args.table.now c.compose-c.ensures.0 c.if-number-ne0.true)
+returns-in-Err c =
+    let e = sym (ap result_err c.in-Err.is) ∙ c.compose.ensures.0 in
+    let R = recipe_of c.args.recipe.now in
+    (c.from.ensures ∙ compose-refuses R _ c.args.table.now e, compose-keeps R _ c.args.table.now e)
 
 pub flatten_composed-requires : goal.flatten_composed-requires
-unfolding recipe_of name_width are_refusals
+unfolding recipe_of name_width refusal_of
 flatten_composed-requires c =
-    (c.compose-c.ensures.1 c.if-number-ne0.false, handed-none (refusal_rows (recipe_of c.args.recipe.now)) refl c.compose-c.ensures.0 c.if-number-ne0.false)
+    (IfOk-at_ok _ c.in-Ok.is c.compose.ensures.1, rows-pass (refusal_rows (recipe_of c.args.recipe.now)) c.compose.ensures.0 c.in-Ok.is)
 
-pub returns : goal.returns
+pub returns-in-Ok : goal.returns-in-Ok
 unfolding recipe_of name_width
-returns c = c.flatten_composed.ensures
+returns-in-Ok c = c.flatten_composed.ensures

@@ -1,15 +1,9 @@
--- `elements::elements_at` meets its contract: the instances passed have the element in the table.
+-- `elements::elements_at` meets its contract: the instances before the next one have the element in the table.
 -- Assumes nothing.
-use mathlib.Core.Path.{◌≡◌}
-use Prim.Native.Nat.{◌-◌}
-use lib.ListN.{length}
-use Rattle.tree.specs.Tree.{instances}
-use Rattle.marks.proofs.Threads.{past}
-use Rattle.elements.proofs.Listing.{ListLoop}
+use Rattle.recipe.specs.Records.{recipe_at}
+use Rattle.elements.specs.Listing.{Listed}
+use Rattle.elements.proofs.Following.{Following}
 use Rattle.elements.proofs.elements_at.Given as goal
 
-abbrev pub invariant-loop-v : goal.invariant-loop-v
-invariant-loop-v l = (length l.el ≡ length l.initial.el) × ListLoop (record { width = l.w; bytes = l.s }) l.p l.el l.v
-
-abbrev pub decreases-loop-v : goal.decreases-loop-v
-decreases-loop-v l = length (instances (record { width = l.w; bytes = l.s })) - past (record { width = l.w; bytes = l.s }) l.v
+abbrev pub invariant-loop-i : goal.invariant-loop-i
+invariant-loop-i l = Following (recipe_at l.w l.s) l.inst l.p (λ D. Listed (recipe_at l.w l.s) D l.el) l.i-iterator

@@ -1,13 +1,9 @@
--- `elements::first_lost` meets its contract: no replaced-by before p has a target that is gone.
+-- `elements::first_lost` meets its contract: no replaced-by before the next record has a target that is gone.
 -- Assumes nothing.
-use Prim.Native.Nat.{◌-◌, ◌≤◌}
-use lib.ListN.{length}
-use Rattle.recipe.proofs.Going.{Going}
+use Rattle.recipe.specs.Records.{recipe_at}
 use Rattle.marks.specs.Faults.{aims_at_gone}
+use Rattle.elements.proofs.Passing.{Seeking}
 use Rattle.elements.proofs.first_lost.Given as goal
 
 abbrev pub invariant-loop-p : goal.invariant-loop-p
-invariant-loop-p l = (l.p ≤ length l.s) × Going (record { width = l.w; bytes = l.s }) (aims_at_gone (record { width = l.w; bytes = l.s })) l.p
-
-abbrev pub decreases-loop-p : goal.decreases-loop-p
-decreases-loop-p l = length l.s - l.p
+invariant-loop-p l = Seeking (recipe_at l.w l.s) (aims_at_gone (recipe_at l.w l.s)) l.p-iterator

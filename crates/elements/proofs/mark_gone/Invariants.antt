@@ -1,7 +1,7 @@
 -- `elements::mark_gone` meets its contract: the elements with numbers below e are marked.
 -- Assumes nothing.
-use Prim.Native.Nat.{◌-◌, ◌≤◌}
 use mathlib.Core.Bool.{cond}
+use Rattle.recipe.specs.Records.{recipe_at}
 use Rattle.tree.specs.Tree.{tree_elements}
 use Rattle.elements.specs.Listing.{Only}
 use Rattle.marks.specs.Marks.{is_gone}
@@ -9,7 +9,6 @@ use Rattle.elements.proofs.Elements.{ColumnFilled}
 use Rattle.elements.proofs.mark_gone.Given as goal
 
 abbrev pub invariant-loop-e : goal.invariant-loop-e
-invariant-loop-e l = (l.e ≤ l.elems) × (Only 2 l.initial.el l.el × ColumnFilled (record { width = l.w; bytes = l.s }) (tree_elements (record { width = l.w; bytes = l.s })) 2 (λ x. cond (is_gone (record { width = l.w; bytes = l.s }) x) 1 0) l.e l.el)
-
-abbrev pub decreases-loop-e : goal.decreases-loop-e
-decreases-loop-e l = l.elems - l.e
+invariant-loop-e l =
+    let s = recipe_at l.w l.s in
+    Only 2 l.initial.el l.el × ColumnFilled s (tree_elements s) 2 (λ x. cond (is_gone s x) 1 0) l.e l.el

@@ -1,16 +1,17 @@
--- `elements::steps_at` meets its contract: the instances passed have their steps in the table.
+-- `elements::steps_at` meets its contract: the instances before the next one have their steps in the table.
 -- Assumes nothing.
-use mathlib.Core.Path.{refl}
 use native.Mathlib.Omega.{arith}
+use Rattle.recipe.specs.Records.{is_owned, recipe_at}
 use Rattle.recipe.proofs.Reading.{place-low}
-use Rattle.marks.proofs.Threads.{thread-fits, thread-less, thread-room}
+use Rattle.tree.proofs.Steps.{follow-room}
+use Rattle.marks.proofs.Turn.{owner-asks, record-room}
 use Rattle.elements.proofs.Elements.{only_same}
-use Rattle.elements.proofs.StepTable.{step_end, step_fits, step_start, step-turn, stepped-only}
-use Rattle.marks.proofs.Turn.{holder-room, owner-asks, record-room}
+use Rattle.elements.proofs.Following.{follow-first, follow-last, follows-fits}
+use Rattle.elements.proofs.StepTable.{step_fits, step-read, step-turn, stepped-only, went-same}
 use Rattle.elements.proofs.steps_at.Goals as goal
 
 pub bounds-s-p : goal.bounds-s-p
-bounds-s-p c = omega (arith, place-low (record { width = c.args.w; bytes = c.args.s.now }) c.args.p c.requires.1.0)
+bounds-s-p c = omega (arith, place-low (recipe_at c.args.w c.args.s.now) c.args.p c.requires.1.0)
 
 pub cell-e-requires : goal.cell-e-requires
 cell-e-requires c = omega (arith, record-room c.requires.0 c.args.p c.requires.1.0)
@@ -18,49 +19,30 @@ cell-e-requires c = omega (arith, record-room c.requires.0 c.args.p c.requires.1
 pub owner_order-o-requires : goal.owner_order-o-requires
 owner_order-o-requires c = owner-asks c.requires.0 c.args.p c.requires.1.0
 
-pub cell-h-requires : goal.cell-h-requires
-cell-h-requires c = omega (arith, record-room c.requires.0 c.args.p c.requires.1.0)
+pub record-i-items-requires : goal.record-i-items-requires
+record-i-items-requires c = follow-room c.requires.0.planted c.args.p c.requires.1.0
 
-pub cell-v-requires : goal.cell-v-requires
-cell-v-requires c = omega (arith, holder-room c.requires.0 c.args.p c.requires.1.0 c.cell-h.ensures.0)
+pub loop-i-init-derived : goal.loop-i-init-derived
+loop-i-init-derived c = (follows-fits c.requires.0 c.args.p c.requires.1.0 c.record-i-items.ensures c.into_iter-i-iterator.ensures.into_iter_gives, tt)
 
-pub loop-v-init : goal.loop-v-init
-loop-v-init c =
-    (only_same 3 c.args.el.now, step_start c.requires.0 c.requires.1.1.1.0 c.args.p c.requires.1.0 c.requires.1.1.0 c.args.el.now c.cell-h.ensures.0 c.cell-v.ensures.0 c.requires.1.1.1.1.0)
-
-pub overflow_mul-row : goal.overflow_mul-row
-overflow_mul-row c =
-    thread-fits c.requires.0 c.args.p c.requires.1.0 c.loop-v.invariant.1.0 c.loop-v-test.true
-
-pub cell-f-requires : goal.cell-f-requires
-cell-f-requires c =
-    omega (arith, thread-room c.requires.0 c.args.p c.requires.1.0 c.loop-v.invariant.1.0 c.loop-v-test.true)
-
-pub overflow_add-f : goal.overflow_add-f
-overflow_add-f c = omega (arith, c.cell-e.ensures.1, c.cell-f.ensures.1)
-
-pub overflow_add-f-in-loop-v : goal.overflow_add-f-in-loop-v
-overflow_add-f-in-loop-v c = omega (arith, c.owner_order-o.ensures.1, c.cell-f.ensures.1)
+pub loop-i-init : goal.loop-i-init
+loop-i-init c =
+    let s = recipe_at c.args.w c.args.s.now in
+    (follow-first c.requires.0 c.args.p c.requires.1.0 (is_owned s) _ (went-same s c.args.el.now) c.record-i-items.ensures c.into_iter-i-iterator.ensures.into_iter_gives c.requires.1.1.1.1.0, only_same 3 c.args.el.now)
 
 pub put_step-requires : goal.put_step-requires
 put_step-requires c =
-    (omega (arith, c.loop-v.invariant.0.long, c.requires.1.1.1.1.1), step_fits c.requires.0 c.requires.1.1.1.0 c.args.p c.requires.1.0 c.requires.1.1.0 (record { holds = c.loop-v.invariant.1.0.holds c.loop-v-test.true; kind-is = refl; target_is = c.cell-e.ensures.0; owner-is = c.owner_order-o.ensures.0; first-is = c.cell-f.ensures.0 }))
+    let w = step-read c.requires.0 c.requires.1.1.1.0 c.args.p c.requires.1.0 c.requires.1.1.0 c.in-Some.i c.loop-i.invariant.0 c.in-Some.ensures.steps c.cell-e.ensures.0 c.owner_order-o.ensures.0 c.cell-f.ensures.0 in
+    (omega (arith, c.loop-i.auto.el, c.requires.1.1.1.1.1), step_fits c.requires.0 c.requires.1.1.1.0 c.args.p c.requires.1.0 c.requires.1.1.0 w)
 
-pub cell-v-requires-in-loop-v : goal.cell-v-requires-in-loop-v
-cell-v-requires-in-loop-v c =
-    omega (arith, thread-room c.requires.0 c.args.p c.requires.1.0 c.loop-v.invariant.1.0 c.loop-v-test.true)
-
-pub loop-v-smaller : goal.loop-v-smaller
-loop-v-smaller c =
-    thread-less c.requires.0 c.args.p c.requires.1.0 c.loop-v.invariant.1.0 c.loop-v-test.true c.cell-v-in-loop-v.ensures.0
-
-pub loop-v-preserved : goal.loop-v-preserved
-loop-v-preserved c =
-    (stepped-only c.requires.0 c.requires.1.1.1.0 c.args.p c.requires.1.0 c.requires.1.1.0 (record { holds = c.loop-v.invariant.1.0.holds c.loop-v-test.true; kind-is = refl; target_is = c.cell-e.ensures.0; owner-is = c.owner_order-o.ensures.0; first-is = c.cell-f.ensures.0 }) c.put_step.ensures c.loop-v.invariant.0, step-turn c.requires.0 c.requires.1.1.1.0 c.args.p c.requires.1.0 c.requires.1.1.0 c.loop-v.el (record { holds = c.loop-v.invariant.1.0.holds c.loop-v-test.true; kind-is = refl; target_is = c.cell-e.ensures.0; owner-is = c.owner_order-o.ensures.0; first-is = c.cell-f.ensures.0 }) (omega (arith, c.loop-v.invariant.0.long, c.requires.1.1.1.1.1)) c.put_step.ensures c.loop-v.invariant.1 c.loop-v-test.true c.cell-v-in-loop-v.ensures.0)
-
-pub shape_of-el : goal.shape_of-el
-shape_of-el c = c.loop-v.invariant.0.long
+pub loop-i-preserved : goal.loop-i-preserved
+loop-i-preserved c =
+    let w = step-read c.requires.0 c.requires.1.1.1.0 c.args.p c.requires.1.0 c.requires.1.1.0 c.in-Some.i c.loop-i.invariant.0 c.in-Some.ensures.steps c.cell-e.ensures.0 c.owner_order-o.ensures.0 c.cell-f.ensures.0 in (
+      step-turn c.requires.0 c.requires.1.1.1.0 c.args.p c.requires.1.0 c.requires.1.1.0 c.loop-i.el w (omega (arith, c.loop-i.auto.el, c.requires.1.1.1.1.1)) c.put_step.ensures c.loop-i.invariant.0 c.in-Some.ensures.steps,
+      stepped-only c.requires.0 c.requires.1.1.1.0 c.args.p c.requires.1.0 c.requires.1.1.0 w c.put_step.ensures c.loop-i.invariant.1,
+    )
 
 pub returns : goal.returns
 returns c =
-    (step_end c.requires.0 c.requires.1.1.1.0 c.args.p c.requires.1.0 c.requires.1.1.0 c.loop-v.el c.loop-v.invariant.1 c.loop-v-test.false, c.loop-v.invariant.0)
+    let s = recipe_at c.args.w c.args.s.now in
+    (follow-last c.requires.0 c.args.p c.requires.1.0 (is_owned s) _ (went-same s c.loop-i.el) c.loop-i.invariant.0 c.in-None.ensures.steps, c.loop-i.invariant.1)

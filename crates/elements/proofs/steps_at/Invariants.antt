@@ -1,15 +1,10 @@
--- `elements::steps_at` meets its contract: the instances passed have their steps in the table.
+-- `elements::steps_at` meets its contract: the instances before the next one have their steps in the table.
 -- Assumes nothing.
-use Prim.Native.Nat.{◌-◌}
-use lib.ListN.{length}
-use Rattle.tree.specs.Tree.{instances}
-use Rattle.marks.proofs.Threads.{past}
+use Rattle.recipe.specs.Records.{recipe_at}
 use Rattle.elements.specs.Listing.{Only}
-use Rattle.elements.proofs.StepTable.{Stepped}
+use Rattle.elements.specs.Steps.{Went}
+use Rattle.elements.proofs.Following.{Following}
 use Rattle.elements.proofs.steps_at.Given as goal
 
-abbrev pub invariant-loop-v : goal.invariant-loop-v
-invariant-loop-v l = Only 3 l.initial.el l.el × Stepped (record { width = l.w; bytes = l.s }) l.p l.el l.v
-
-abbrev pub decreases-loop-v : goal.decreases-loop-v
-decreases-loop-v l = length (instances (record { width = l.w; bytes = l.s })) - past (record { width = l.w; bytes = l.s }) l.v
+abbrev pub invariant-loop-i : goal.invariant-loop-i
+invariant-loop-i l = Following (recipe_at l.w l.s) l.inst l.p (λ D. Went (recipe_at l.w l.s) D l.el) l.i-iterator × Only 3 l.initial.el l.el

@@ -1,11 +1,13 @@
--- `factor_ends::misfactored_at` meets its contract: no instance passed has a factor at fault.
+-- `factor_ends::misfactored_at` meets its contract: no instance before the next one has a factor at fault.
 -- Assumes nothing.
+use mathlib.Core.Path.{◌∙◌, sym}
 use native.Mathlib.Omega.{arith}
-use Rattle.recipe.specs.Records.{is_factors}
-use Rattle.marks.specs.Faults.{has_factor_fault}
-use Rattle.marks.proofs.Threads.{seek-start, thread-fits, thread-less, thread-room}
-use Rattle.marks.proofs.Turn.{holder-room, record-room}
-use Rattle.factor_ends.proofs.FactorFaults.{extent-at, factors-low, misfactored-end, misfactored-hit, misfactored-turn, time-at}
+use Rattle.recipe.specs.Records.{is_factors, recipe_at}
+use Rattle.tree.proofs.Steps.{follow-room}
+use Rattle.marks.specs.Faults.{has_factor_fault, is_unfactored}
+use Rattle.marks.proofs.Turn.{record-room}
+use Rattle.elements.proofs.Following.{follows-fits, follows-holds, seeks-first, seeks-last, seeks-on}
+use Rattle.factor_ends.proofs.FactorFaults.{extent-at, factors-low, judged, misfactored-hit, time-at}
 use Rattle.factor_ends.proofs.misfactored_at.Goals as goal
 
 pub cell-a-requires : goal.cell-a-requires
@@ -14,68 +16,57 @@ cell-a-requires c = omega (arith, record-room c.requires.0.targeted c.args.p c.r
 pub cell-b-requires : goal.cell-b-requires
 cell-b-requires c = omega (arith, record-room c.requires.0.targeted c.args.p c.requires.1.0)
 
-pub cell-h-requires : goal.cell-h-requires
-cell-h-requires c = omega (arith, record-room c.requires.0.targeted c.args.p c.requires.1.0)
+pub record-i-items-requires : goal.record-i-items-requires
+record-i-items-requires c = follow-room c.requires.0.targeted.planted c.args.p c.requires.1.0
 
-pub cell-v-requires : goal.cell-v-requires
-cell-v-requires c = omega (arith, holder-room c.requires.0.targeted c.args.p c.requires.1.0 c.cell-h.ensures.0)
+pub loop-i-init-derived : goal.loop-i-init-derived
+loop-i-init-derived c = (follows-fits c.requires.0.targeted c.args.p c.requires.1.0 c.record-i-items.ensures c.into_iter-i-iterator.ensures.into_iter_gives, tt)
 
-pub loop-v-init : goal.loop-v-init
-loop-v-init c =
-    seek-start c.requires.0.targeted (is_factors (record { width = c.args.w; bytes = c.args.s.now })) c.args.p c.requires.1.0 (has_factor_fault (record { width = c.args.w; bytes = c.args.s.now })) c.cell-h.ensures.0 c.cell-v.ensures.0
-
-pub overflow_mul-row : goal.overflow_mul-row
-overflow_mul-row c =
-    thread-fits c.requires.0.targeted c.args.p c.requires.1.0 c.loop-v.invariant.0 c.loop-v-test.true
-
-pub cell-f-requires : goal.cell-f-requires
-cell-f-requires c =
-    omega (arith, thread-room c.requires.0.targeted c.args.p c.requires.1.0 c.loop-v.invariant.0 c.loop-v-test.true)
+pub loop-i-init : goal.loop-i-init
+loop-i-init c =
+    let s = recipe_at c.args.w c.args.s.now in
+    seeks-first c.requires.0.targeted c.args.p c.requires.1.0 (is_factors s) (has_factor_fault s) c.record-i-items.ensures c.into_iter-i-iterator.ensures.into_iter_gives
 
 pub overflow_add-p : goal.overflow_add-p
 overflow_add-p c =
     omega (arith, factors-low c.requires.0 c.args.p c.requires.1.0 c.requires.1.1, c.requires.0.targeted.planted.measured.linked.numbered.shadowed.short)
 
-pub overflow_add-p-in-loop-v : goal.overflow_add-p-in-loop-v
-overflow_add-p-in-loop-v c =
+pub overflow_add-p-in-loop-i : goal.overflow_add-p-in-loop-i
+overflow_add-p-in-loop-i c =
+    omega (arith, factors-low c.requires.0 c.args.p c.requires.1.0 c.requires.1.1, c.requires.0.targeted.planted.measured.linked.numbered.shadowed.short)
+
+pub overflow_add-p-in-loop-i-2 : goal.overflow_add-p-in-loop-i-2
+overflow_add-p-in-loop-i-2 c =
+    omega (arith, factors-low c.requires.0 c.args.p c.requires.1.0 c.requires.1.1, c.requires.0.targeted.planted.measured.linked.numbered.shadowed.short)
+
+pub overflow_add-p-in-loop-i-3 : goal.overflow_add-p-in-loop-i-3
+overflow_add-p-in-loop-i-3 c =
     omega (arith, factors-low c.requires.0 c.args.p c.requires.1.0 c.requires.1.1, c.requires.0.targeted.planted.measured.linked.numbered.shadowed.short)
 
 pub is_factor_fault-time-requires : goal.is_factor_fault-time-requires
 is_factor_fault-time-requires c =
-    (c.requires.0.chains, (c.requires.0.gones, (_, time-at c.requires.0 c.args.p c.requires.1.0 c.requires.1.1 c.loop-v.invariant c.loop-v-test.true c.cell-f.ensures.0 c.cell-a.ensures.0)))
-
-pub overflow_add-p-in-loop-v-2 : goal.overflow_add-p-in-loop-v-2
-overflow_add-p-in-loop-v-2 c =
-    omega (arith, factors-low c.requires.0 c.args.p c.requires.1.0 c.requires.1.1, c.requires.0.targeted.planted.measured.linked.numbered.shadowed.short)
-
-pub overflow_add-w : goal.overflow_add-w
-overflow_add-w c =
-    omega (arith, factors-low c.requires.0 c.args.p c.requires.1.0 c.requires.1.1, c.requires.0.targeted.planted.measured.linked.numbered.shadowed.short)
-
-pub overflow_add-p-in-loop-v-3 : goal.overflow_add-p-in-loop-v-3
-overflow_add-p-in-loop-v-3 c =
-    omega (arith, factors-low c.requires.0 c.args.p c.requires.1.0 c.requires.1.1, c.requires.0.targeted.planted.measured.linked.numbered.shadowed.short)
+    let h = follows-holds c.requires.0.targeted c.args.p c.requires.1.0 c.loop-i.invariant c.in-Some.ensures.steps in
+    (c.requires.0.chains, (c.requires.0.gones, (_, time-at c.requires.0 c.args.p c.requires.1.0 c.requires.1.1 c.in-Some.i h c.cell-f.ensures.0 c.cell-a.ensures.0)))
 
 pub is_factor_fault-extent-requires : goal.is_factor_fault-extent-requires
 is_factor_fault-extent-requires c =
-    (c.requires.0.chains, (c.requires.0.gones, (_, extent-at c.requires.0 c.args.p c.requires.1.0 c.requires.1.1 c.loop-v.invariant c.loop-v-test.true c.cell-f.ensures.0 c.cell-b.ensures.0)))
+    let h = follows-holds c.requires.0.targeted c.args.p c.requires.1.0 c.loop-i.invariant c.in-Some.ensures.steps in
+    (c.requires.0.chains, (c.requires.0.gones, (_, extent-at c.requires.0 c.args.p c.requires.1.0 c.requires.1.1 c.in-Some.i h c.cell-f.ensures.0 c.cell-b.ensures.0)))
 
 pub returns-then-time-extent : goal.returns-then-time-extent
 returns-then-time-extent c =
-    misfactored-hit c.requires.0 c.args.p c.requires.1.0 c.requires.1.1 c.loop-v.invariant c.loop-v-test.true c.cell-f.ensures.0 c.cell-a.ensures.0 c.cell-b.ensures.0 c.is_factor_fault-time.ensures c.is_factor_fault-extent.ensures c.if-time-extent.true
+    let h = follows-holds c.requires.0.targeted c.args.p c.requires.1.0 c.loop-i.invariant c.in-Some.ensures.steps in
+    misfactored-hit c.requires.0 c.args.p c.requires.1.0 c.requires.1.1 c.in-Some.i h c.cell-f.ensures.0 c.cell-a.ensures.0 c.cell-b.ensures.0 c.is_factor_fault-time.ensures c.is_factor_fault-extent.ensures c.if-time-extent.true
 
-pub cell-v-requires-in-loop-v : goal.cell-v-requires-in-loop-v
-cell-v-requires-in-loop-v c =
-    omega (arith, thread-room c.requires.0.targeted c.args.p c.requires.1.0 c.loop-v.invariant.0 c.loop-v-test.true)
-
-pub loop-v-smaller : goal.loop-v-smaller
-loop-v-smaller c =
-    thread-less c.requires.0.targeted c.args.p c.requires.1.0 c.loop-v.invariant.0 c.loop-v-test.true c.cell-v-in-loop-v.ensures.0
-
-pub loop-v-preserved : goal.loop-v-preserved
-loop-v-preserved c =
-    misfactored-turn c.requires.0 c.args.p c.requires.1.0 c.requires.1.1 c.loop-v.invariant c.loop-v-test.true c.cell-f.ensures.0 c.cell-a.ensures.0 c.cell-b.ensures.0 c.is_factor_fault-time.ensures c.is_factor_fault-extent.ensures c.if-time-extent.false c.cell-v-in-loop-v.ensures.0
+pub loop-i-preserved : goal.loop-i-preserved
+loop-i-preserved c =
+    let s = recipe_at c.args.w c.args.s.now in
+    let h = follows-holds c.requires.0.targeted c.args.p c.requires.1.0 c.loop-i.invariant c.in-Some.ensures.steps in
+    let j = judged c.requires.0 c.args.p c.requires.1.0 c.requires.1.1 c.in-Some.i h c.cell-f.ensures.0 c.cell-a.ensures.0 c.cell-b.ensures.0 c.is_factor_fault-time.ensures c.is_factor_fault-extent.ensures in
+    seeks-on c.requires.0.targeted c.args.p c.requires.1.0 (is_factors s) (has_factor_fault s) c.in-Some.i c.loop-i.invariant c.in-Some.ensures.steps (sym j ∙ c.if-time-extent.false)
 
 pub returns : goal.returns
+unfolding is_unfactored
 returns c =
-    misfactored-end c.requires.0 c.args.p c.requires.1.0 c.requires.1.1 c.loop-v.invariant c.loop-v-test.false
+    let s = recipe_at c.args.w c.args.s.now in
+    sym (seeks-last c.requires.0.targeted c.args.p c.requires.1.0 (is_factors s) (has_factor_fault s) c.loop-i.invariant c.in-None.ensures.steps)

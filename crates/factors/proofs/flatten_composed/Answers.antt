@@ -7,11 +7,11 @@ use Rattle.factors.proofs.Answers.{both-outcome, enough, entries-short, table-sh
 use Rattle.factors.proofs.flatten_composed.Goals as goal
 
 pub overflow_mul-bytes : goal.overflow_mul-bytes
-overflow_mul-bytes c = omega (arith, bytes-few c.requires.0 c.count_survivors-n.ensures c.record_width.ensures)
+overflow_mul-bytes c = omega (arith, bytes-few c.requires.0 c.count_survivors-count.ensures c.record_width.ensures)
 
 pub returns-then-table-bytes : goal.returns-then-table-bytes
 returns-then-table-bytes c =
-    table-short (record { width = c.args.w; bytes = c.args.s.now }) c.args.table.now c.args.entries.now c.requires.1 c.count_survivors-n.ensures c.count_entries-k.ensures c.record_width.ensures c.if-table-bytes.true c.refusal.ensures
+    table-short (record { width = c.args.w; bytes = c.args.s.now }) c.args.table.now c.args.entries.now c.requires.1 c.count_survivors-count.ensures c.count_entries-k.ensures c.record_width.ensures c.if-table-bytes.true c.from.ensures
 
 pub overflow_mul-k : goal.overflow_mul-k
 overflow_mul-k c =
@@ -19,12 +19,12 @@ overflow_mul-k c =
 
 pub returns-then-entries-k : goal.returns-then-entries-k
 returns-then-entries-k c =
-    entries-short (record { width = c.args.w; bytes = c.args.s.now }) c.args.table.now c.args.entries.now c.requires.1 c.count_survivors-n.ensures c.count_entries-k.ensures c.record_width.ensures c.entry_width.ensures c.if-entries-k.true c.refusal-then-entries-k.ensures
+    entries-short (record { width = c.args.w; bytes = c.args.s.now }) c.args.table.now c.args.entries.now c.requires.1 c.count_survivors-count.ensures c.count_entries-k.ensures c.record_width.ensures c.entry_width.ensures c.if-entries-k.true c.from-then-entries-k.ensures
 
 pub write_both-requires : goal.write_both-requires
 write_both-requires c =
-    (c.requires.0, enough (record { width = c.args.w; bytes = c.args.s.now }) c.args.table.now c.args.entries.now c.requires.1 c.count_survivors-n.ensures c.count_entries-k.ensures c.record_width.ensures c.entry_width.ensures c.if-table-bytes.false c.if-entries-k.false)
+    (c.requires.0, enough (record { width = c.args.w; bytes = c.args.s.now }) c.args.table.now c.args.entries.now c.requires.1 c.count_survivors-count.ensures c.count_entries-k.ensures c.record_width.ensures c.entry_width.ensures c.if-table-bytes.false c.if-entries-k.false)
 
 pub returns : goal.returns
 returns c =
-    both-outcome (record { width = c.args.w; bytes = c.args.s.now }) c.args.table.now c.args.entries.now c.requires.1 c.count_survivors-n.ensures c.count_entries-k.ensures c.record_width.ensures c.entry_width.ensures c.if-table-bytes.false c.if-entries-k.false c.write_both.ensures
+    both-outcome (record { width = c.args.w; bytes = c.args.s.now }) c.args.table.now c.args.entries.now c.requires.1 c.count_survivors-count.ensures c.count_entries-k.ensures c.record_width.ensures c.entry_width.ensures c.if-table-bytes.false c.if-entries-k.false c.write_both.ensures

@@ -1,7 +1,8 @@
 -- `flat_names::name_length` meets its contract: the part of the field before the padding.
 -- Assumes nothing.
+use Rattle.recipe.specs.Records.{recipe_at}
 use Rattle.flat_names.proofs.Looking.{name-cut}
 use Rattle.flat_names.proofs.name_length.Goals as goal
 
 pub returns : goal.returns
-returns c = name-cut (record { width = c.args.w; bytes = c.args.s.now }) c.args.p _ c.unpadded-t.ensures
+returns c = name-cut (recipe_at c.args.w c.args.s.now) c.args.p c.field_at.ensures c.unpadded.ensures

@@ -2,7 +2,7 @@
 -- Assumes nothing.
 use mathlib.Core.Path.{sym, ◌∙◌}
 use native.Mathlib.Omega.{arith}
-use Rattle.names.proofs.Scans.{at-found, nothing-found, scan-start, scan-hit, scan-more, scan-over}
+use Rattle.names.proofs.Scans.{scan-start, scan-hit, scan-more, scan-over}
 use Rattle.flat_table.proofs.Rows.{row-fault, row_of}
 use Rattle.flat_table.proofs.first_unlinked.Goals as goal
 
@@ -20,11 +20,11 @@ reference_fault-requires c = (c.requires, row_of c.requires c.loop-i-test.true)
 
 pub returns-then-parent_fault-reference_fault : goal.returns-then-parent_fault-reference_fault
 returns-then-parent_fault-reference_fault c =
-    at-found (c.loop-i.invariant.1 ∙ scan-hit _ _ _ c.loop-i-test.true (sym (row-fault _ _ _ _ c.parent_fault.ensures c.reference_fault.ensures) ∙ c.if-parent_fault-reference_fault.true))
+    sym (c.loop-i.invariant.1 ∙ scan-hit _ _ _ c.loop-i-test.true (sym (row-fault _ _ _ _ c.parent_fault.ensures c.reference_fault.ensures) ∙ c.if-parent_fault-reference_fault.true))
 
 pub loop-i-preserved : goal.loop-i-preserved
 loop-i-preserved c =
     (omega arith, c.loop-i.invariant.1 ∙ scan-more _ _ _ c.loop-i-test.true (sym (row-fault _ _ _ _ c.parent_fault.ensures c.reference_fault.ensures) ∙ c.if-parent_fault-reference_fault.false))
 
 pub returns : goal.returns
-returns c = nothing-found (c.loop-i.invariant.1 ∙ scan-over _ _ _ c.loop-i-test.false)
+returns c = sym (c.loop-i.invariant.1 ∙ scan-over _ _ _ c.loop-i-test.false)

@@ -18,13 +18,13 @@ returns-in_default c =
 
 pub overflow_mul-to : goal.overflow_mul-to
 overflow_mul-to c =
-    let r = row-found c.requires.0 _ (sym c.in-At.is ∙ c.find_row.ensures) in omega (arith, r.room, r.fields.three)
+    let r = row-found c.requires.0 _ (sym c.in-Some.is ∙ c.find_row.ensures) in omega (arith, r.room, r.fields.three)
 
 pub bounds-table-to : goal.bounds-table-to
 bounds-table-to c =
-    let r = row-found c.requires.0 _ (sym c.in-At.is ∙ c.find_row.ensures) in omega (arith, r.room, r.fields.three)
+    let r = row-found c.requires.0 _ (sym c.in-Some.is ∙ c.find_row.ensures) in omega (arith, r.room, r.fields.three)
 
 pub returns : goal.returns
 unfolding is_parent_fault row_parent row_kind
 returns c =
-    link-there _ _ _ _ _ _ _ c.field_at-f.ensures c.is_blank.ensures _ c.if-is_blank.false (named_some c.requires.0 _ (sym c.in-At.is ∙ c.find_row.ensures)) (parent_row _ _ _ _ _ c.parent_allowed.ensures)
+    link-there _ _ _ _ _ _ _ c.field_at-f.ensures c.is_blank.ensures _ c.if-is_blank.false (named_some c.requires.0 _ (sym c.in-Some.is ∙ c.find_row.ensures)) (parent_row _ _ _ _ _ c.parent_allowed.ensures)

@@ -1,7 +1,6 @@
--- `flat_table::refused` meets its contract, by computing. Assumes nothing.
+-- `flat_table::refused` meets its contract, by its callee.
 -- Assumes nothing.
-use mathlib.Core.Path.{refl}
 use Rattle.flat_table.proofs.refused.Goals as goal
 
 pub returns : goal.returns
-returns c = refl
+returns c = rw c.number.ensures

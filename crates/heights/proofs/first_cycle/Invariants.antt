@@ -1,13 +1,10 @@
--- `heights::first_cycle` meets its contract: the invariant: what is left to scan from p on.
+-- `heights::first_cycle` meets its contract: what is left to scan from the next record on.
 -- Assumes nothing.
-use Prim.Native.Nat.{◌-◌, ◌≤◌}
-use lib.ListN.{length}
+use Rattle.recipe.specs.Records.{recipe_at}
 use Rattle.recipe.proofs.Going.{Going}
+use Rattle.recipe.proofs.Steps.{Over}
 use Rattle.heights.proofs.Cycles.{is_cycle}
 use Rattle.heights.proofs.first_cycle.Given as goal
 
 abbrev pub invariant-loop-p : goal.invariant-loop-p
-invariant-loop-p l = Going (record { width = l.w; bytes = l.s }) (is_cycle (record { width = l.w; bytes = l.s })) l.p × (l.p ≤ length l.s)
-
-abbrev pub decreases-loop-p : goal.decreases-loop-p
-decreases-loop-p l = length l.s - l.p
+invariant-loop-p l = Over (recipe_at l.w l.s) l.p-iterator × Going (recipe_at l.w l.s) (is_cycle (recipe_at l.w l.s)) l.p-iterator.at

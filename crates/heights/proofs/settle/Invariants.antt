@@ -1,12 +1,9 @@
--- `heights::settle` meets its contract: the invariant: the definitions before p are settled, and none is in progress.
+-- `heights::settle` meets its contract: the definitions before the next record are settled, and none is in progress.
 -- Assumes nothing.
-use Prim.Native.Nat.{◌-◌}
-use lib.ListN.{length}
+use Rattle.recipe.specs.Records.{recipe_at}
+use Rattle.recipe.proofs.Steps.{Over}
 use Rattle.heights.proofs.Settling.{SettlesLoop}
 use Rattle.heights.proofs.settle.Given as goal
 
 abbrev pub invariant-loop-p : goal.invariant-loop-p
-invariant-loop-p l = SettlesLoop (record { width = l.w; bytes = l.s }) l.initial.t l.t l.p
-
-abbrev pub decreases-loop-p : goal.decreases-loop-p
-decreases-loop-p l = length l.s - l.p
+invariant-loop-p l = Over (recipe_at l.w l.s) l.p-iterator × SettlesLoop (recipe_at l.w l.s) l.initial.t l.t l.p-iterator.at

@@ -1,25 +1,33 @@
 -- `links::judge_names` meets its contract: row by row.
 -- Assumes nothing.
-use mathlib.Core.Path.{sym, ◌∙◌}
-use Rattle.names.proofs.Scans.{found_nothing}
-use Rattle.names.proofs.Judging.{no_rows, row-hit, row-miss, not-zero}
+use mathlib.Core.Path.{◌∙◌}
+use Rattle.std.proofs.lemmas.Result.{err_from_is_err_and}
+use Rattle.names.specs.declared.Reason.TheVariants.{Repeated, Undeclared}
+use Rattle.names.proofs.Judging.{no_rows, row-behind, row-passed, row-refuses}
 use Rattle.links.proofs.judge_names.Goals as goal
 
-pub returns-in-At : goal.returns-in-At
-returns-in-At c = (c.refuse.ensures ∙ row-hit 4 _ _ (sym c.in-At.is ∙ c.first_repeated.ensures), λ z. not-zero _ 3 _ c.refuse.ensures z)
+pub returns-in_err-judge : goal.returns-in_err-judge
+returns-in_err-judge c =
+    let p = err_from_is_err_and c.from_residual.result c.from_residual.ensures.1 in
+    rw (p.1, p.2) (row-refuses Repeated c.first_repeated-repeated.ensures c.judge.ensures _ c.in_err-judge.was, tt)
 
 pub link_records-requires : goal.link_records-requires
 link_records-requires c =
-    (record { indexed = c.requires.0; once = found_nothing (sym c.in_default.is ∙ c.first_repeated.ensures) }, c.requires.1)
+    (record { indexed = c.requires.0; once = row-passed Repeated c.first_repeated-repeated.ensures c.judge.ensures c.in_ok-judge.was }, c.requires.1)
 
-pub returns-in-At-link_records : goal.returns-in-At-link_records
-returns-in-At-link_records c =
-    (c.refuse-in-At-link_records.ensures ∙ (row-hit 5 _ _ (sym c.in-At-link_records.is ∙ c.link_records.ensures.0) ∙ row-miss 4 _ _ (sym c.in_default.is ∙ c.first_repeated.ensures)), λ z. not-zero _ 4 _ c.refuse-in-At-link_records.ensures z)
+pub returns-in_err-judge-2 : goal.returns-in_err-judge-2
+returns-in_err-judge-2 c =
+    let p = err_from_is_err_and c.from_residual-in_err-judge-2.result c.from_residual-in_err-judge-2.ensures.1 in
+    let a = row-passed Repeated c.first_repeated-repeated.ensures c.judge.ensures c.in_ok-judge.was in
+    rw (p.1, p.2) (row-behind Repeated _ a (row-refuses Undeclared c.link_records.ensures.0 c.judge-2.ensures _ c.in_err-judge-2.was), tt)
 
 pub name_targets-requires : goal.name_targets-requires
 name_targets-requires c =
-    (record { indexed = c.requires.0; once = found_nothing (sym c.in_default.is ∙ c.first_repeated.ensures) }, c.link_records.ensures.1 c.in_default-link_records.is)
+    let a = row-passed Repeated c.first_repeated-repeated.ensures c.judge.ensures c.in_ok-judge.was in
+    (record { indexed = c.requires.0; once = a }, c.link_records.ensures.1 (c.link_records.ensures.0 ∙ row-passed Undeclared c.link_records.ensures.0 c.judge-2.ensures c.in_ok-judge-2.was))
 
 pub returns : goal.returns
 returns c =
-    (c.refuse-2.ensures ∙ (no_rows ∙ (row-miss 5 _ _ (sym c.in_default-link_records.is ∙ c.link_records.ensures.0) ∙ row-miss 4 _ _ (sym c.in_default.is ∙ c.first_repeated.ensures))), λ z. c.name_targets.ensures)
+    let a = row-passed Repeated c.first_repeated-repeated.ensures c.judge.ensures c.in_ok-judge.was in
+    let b = row-passed Undeclared c.link_records.ensures.0 c.judge-2.ensures c.in_ok-judge-2.was in
+    (row-behind Repeated _ a (row-behind Undeclared _ b no_rows), c.name_targets.ensures)

@@ -1,10 +1,11 @@
 -- `links::link_records` meets its contract: the invariant: the records before p have their cells 3 to 5, and row 5 refuses none of them.
 -- Assumes nothing.
+use Rattle.names.proofs.Tests.{some-none}
+use mathlib.Core.Path.{sym}
 use Rattle.recipe.specs.Records.{Recipe}
 use mathlib.Core.Path.{refl, ◌∙◌}
 use mathlib.Core.Logic.{inl, inr}
 use native.Mathlib.Omega.{arith}
-use Rattle.names.proofs.Scans.{at-found, not-nothing, nothing-found}
 use Rattle.recipe.proofs.Going.{going_start, here, going-hit, going_on, going_end}
 use Rattle.shadow.proofs.Cells.{row_kept, walk_start, walk-place, walk-room, walk-fits, walk-one, walk_end, filling-start, filling-one, filling-end}
 use Rattle.shadow.proofs.Columns.{numbered-over}
@@ -27,7 +28,7 @@ shape_of-t-then-l c = c.loop-p.invariant.0.kept.long
 
 pub returns-then-l : goal.returns-then-l
 returns-then-l c =
-    let pre = c.requires in let sh = pre.1.shadowed in let g = c.loop-p.invariant.0 in let l = c.loop-p-test.true in let a = c.args in let R : Recipe = record { width = a.w; bytes = a.s.now } in (at-found (fault-five R (going-hit (here R _ _ sh.whole c.loop-p.invariant.1.1 l) (links-fault R _ c.link_record-l.ensures c.if-l.true))), λ z. not-nothing z)
+    let pre = c.requires in let sh = pre.1.shadowed in let g = c.loop-p.invariant.0 in let l = c.loop-p-test.true in let a = c.args in let R : Recipe = record { width = a.w; bytes = a.s.now } in (sym (fault-five R (going-hit (here R _ _ sh.whole c.loop-p.invariant.1.1 l) (links-fault R _ c.link_record-l.ensures c.if-l.true))), λ z. some-none z)
 
 pub set_cell-requires : goal.set_cell-requires
 set_cell-requires c =
@@ -66,4 +67,4 @@ shape_of-t c = c.loop-p.invariant.0.kept.long
 
 pub returns : goal.returns
 returns c =
-    let pre = c.requires in let g = c.loop-p.invariant.0 in let a = c.args in let R : Recipe = record { width = a.w; bytes = a.s.now } in let none = fault-five R (going_end c.loop-p.invariant.1.1 c.loop-p-test.false) in let end = walk_end pre.1.shadowed g c.loop-p-test.false in let f = filling-end c.loop-p.invariant.1.0 end in (nothing-found none, λ z. (record { numbered = numbered-over g.kept refl pre.1; declared = none; uppers = f 3 (inr (inr (inl refl))); lowers = f 4 (inr (inl refl)) }, f 5 (inl refl)))
+    let pre = c.requires in let g = c.loop-p.invariant.0 in let a = c.args in let R : Recipe = record { width = a.w; bytes = a.s.now } in let none = fault-five R (going_end c.loop-p.invariant.1.1 c.loop-p-test.false) in let end = walk_end pre.1.shadowed g c.loop-p-test.false in let f = filling-end c.loop-p.invariant.1.0 end in (sym none, λ z. (record { numbered = numbered-over g.kept refl pre.1; declared = none; uppers = f 3 (inr (inr (inl refl))); lowers = f 4 (inr (inl refl)) }, f 5 (inl refl)))

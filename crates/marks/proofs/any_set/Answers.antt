@@ -1,18 +1,18 @@
--- `marks::any_set` meets its contract: the cells passed are not set.
+-- `marks::any_set` meets its contract: a test of a slice.
 -- Assumes nothing.
-use mathlib.Core.Path.{◌∙◌, refl, sym}
-use native.Mathlib.Omega.{arith}
-use Rattle.marks.proofs.Records.{any-end, any-hit, any-miss}
+use Prim.Native.Nat.{◌+◌}
+use lib.Dec.{eqb}
+use mathlib.Core.Bool.{not}
+use mathlib.Core.Path.{◌∙◌}
+use Rattle.std.proofs.Common.{rules, tests}
+use Rattle.std.proofs.lemmas.Iterator.{YieldsList-from_slice}
+use Rattle.std.proofs.lemmas.Iterator.Search.{any_from_yields_List}
+use Rattle.std.specs.List.{slice_range}
+use Rattle.marks.proofs.Records.{any-range}
 use Rattle.marks.proofs.any_set.Goals as goal
 
-pub loop-left-init : goal.loop-left-init
-loop-left-init c = (c.requires, refl)
-
-pub returns-then-cells-i-ne0 : goal.returns-then-cells-i-ne0
-returns-then-cells-i-ne0 c = sym (c.loop-left.invariant.1 ∙ any-hit _ _ _ (omega arith) c.if-cells-i-ne0.true)
-
-pub loop-left-preserved : goal.loop-left-preserved
-loop-left-preserved c = (omega arith, c.loop-left.invariant.1 ∙ any-miss _ _ _ (omega arith) c.if-cells-i-ne0.false)
-
 pub returns : goal.returns
-returns c = sym (c.loop-left.invariant.1 ∙ any-end _ _ _ (omega arith))
+returns c =
+    any_from_yields_List (λ x. not (eqb x 0)) _ _ c.any.result c.any.ensures.ran
+    (YieldsList-from_slice (slice_range c.args.cells.now c.args.a (c.args.a + c.args.n)) cc) (λ x b q k. search (rules, tests))
+    ∙ any-range c.args.cells.now c.args.a c.args.n c.requires

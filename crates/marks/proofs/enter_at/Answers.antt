@@ -1,68 +1,43 @@
 -- `marks::enter_at` meets its contract: the instances passed have set their cells.
 -- Assumes nothing.
-use mathlib.Core.Path.{◌∙◌, refl, sym}
-use native.Mathlib.Omega.{arith}
-use Rattle.recipe.proofs.Reading.{place-low}
-use Rattle.marks.proofs.Threads.{thread-fits, thread-less, thread-room}
-use Rattle.marks.proofs.Turn.{enter-end, enter-start, enter-turn, fits, holder-room, owner-asks, record-room, stamped-length}
+use mathlib.Core.Path.{◌∙◌, refl}
+use Rattle.tree.proofs.Steps.{follow-end, follow-fits, follow-room, follow-start, follow-step}
+use Rattle.marks.proofs.Turn.{enter-end, enter-start, enter-turn, read-room, stamped-length, step-fits}
 use Rattle.marks.proofs.enter_at.Goals as goal
 
-pub bounds-s-p : goal.bounds-s-p
-bounds-s-p c = omega (arith, place-low (record { width = c.args.w; bytes = c.args.s.now }) c.args.p c.requires.1.0)
+pub read-pointer-requires : goal.read-pointer-requires
+read-pointer-requires c = read-room c.requires.0 c.args.p c.requires.1.0
 
-pub cell-e-requires : goal.cell-e-requires
-cell-e-requires c = omega (arith, record-room c.requires.0 c.args.p c.requires.1.0)
+pub record-i-items-requires : goal.record-i-items-requires
+record-i-items-requires c = follow-room c.requires.0.planted c.args.p c.requires.1.0
 
-pub owner_order-o-requires : goal.owner_order-o-requires
-owner_order-o-requires c = owner-asks c.requires.0 c.args.p c.requires.1.0
+pub loop-i-init-derived : goal.loop-i-init-derived
+loop-i-init-derived c =
+    (follow-fits c.requires.0.planted c.args.p c.requires.1.0 (follow-start c.record-i-items.ensures c.into_iter-i-iterator.ensures.into_iter_gives), tt)
 
-pub cell-h-requires : goal.cell-h-requires
-cell-h-requires c = omega (arith, record-room c.requires.0 c.args.p c.requires.1.0)
-
-pub cell-v-requires : goal.cell-v-requires
-cell-v-requires c = omega (arith, holder-room c.requires.0 c.args.p c.requires.1.0 c.cell-h.ensures.0)
-
-pub loop-v-init : goal.loop-v-init
-loop-v-init c =
-    (c.requires.1.1.1.1, enter-start c.requires.0 c.args.p c.requires.1.0 c.requires.1.1.0 c.args.cells.now c.cell-h.ensures.0 c.cell-v.ensures.0 c.requires.1.1.1.0)
-
-pub overflow_mul-row : goal.overflow_mul-row
-overflow_mul-row c =
-    thread-fits c.requires.0 c.args.p c.requires.1.0 c.loop-v.invariant.1.0 c.loop-v-test.true
-
-pub cell-f-requires : goal.cell-f-requires
-cell-f-requires c =
-    omega (arith, thread-room c.requires.0 c.args.p c.requires.1.0 c.loop-v.invariant.1.0 c.loop-v-test.true)
-
-pub cell-d-requires : goal.cell-d-requires
-cell-d-requires c =
-    omega (arith, thread-room c.requires.0 c.args.p c.requires.1.0 c.loop-v.invariant.1.0 c.loop-v-test.true)
-
-pub overflow_add-f : goal.overflow_add-f
-overflow_add-f c = omega (arith, c.cell-e.ensures.1, c.cell-f.ensures.1)
-
-pub overflow_add-f-in-loop-v : goal.overflow_add-f-in-loop-v
-overflow_add-f-in-loop-v c = omega (arith, c.owner_order-o.ensures.1, c.cell-f.ensures.1)
+pub loop-i-init : goal.loop-i-init
+loop-i-init c =
+    let o = follow-start c.record-i-items.ensures c.into_iter-i-iterator.ensures.into_iter_gives in
+    record {
+      follows = o.0;
+      long = c.requires.1.1.1.1;
+      along = enter-start c.requires.0 c.args.p c.requires.1.0 c.requires.1.1.0 c.args.cells.now refl o.1 c.requires.1.1.1.0;
+    }
 
 pub stamp-requires : goal.stamp-requires
 stamp-requires c =
-    (c.loop-v.invariant.0, fits c.requires.0 c.args.p c.requires.1.0 c.requires.1.1.0 (record { holds = c.loop-v.invariant.1.0.holds c.loop-v-test.true; kind-is = refl; target_is = c.cell-e.ensures.0; owner-is = c.owner_order-o.ensures.0; first-is = c.cell-f.ensures.0 }) c.cell-d.ensures.0)
+    let z = follow-step c.loop-i.invariant.follows c.in-Some.ensures.steps in
+    (c.loop-i.invariant.long, step-fits c.requires.0 c.args.p c.requires.1.0 c.requires.1.1.0 z c.loop-i.invariant.along.0 c.read-pointer.ensures c.in_instance.ensures)
 
-pub cell-v-requires-in-loop-v : goal.cell-v-requires-in-loop-v
-cell-v-requires-in-loop-v c =
-    omega (arith, thread-room c.requires.0 c.args.p c.requires.1.0 c.loop-v.invariant.1.0 c.loop-v-test.true)
-
-pub loop-v-smaller : goal.loop-v-smaller
-loop-v-smaller c =
-    thread-less c.requires.0 c.args.p c.requires.1.0 c.loop-v.invariant.1.0 c.loop-v-test.true c.cell-v-in-loop-v.ensures.0
-
-pub loop-v-preserved : goal.loop-v-preserved
-loop-v-preserved c =
-    (stamped-length _ _ _ _ c.loop-v.cells c.stamp.ensures ∙ c.loop-v.invariant.0, enter-turn c.requires.0 c.args.p c.requires.1.0 c.requires.1.1.0 c.loop-v.cells (record { holds = c.loop-v.invariant.1.0.holds c.loop-v-test.true; kind-is = refl; target_is = c.cell-e.ensures.0; owner-is = c.owner_order-o.ensures.0; first-is = c.cell-f.ensures.0 }) c.cell-d.ensures.0 c.loop-v.invariant.0 c.stamp.ensures c.loop-v.invariant.1 c.loop-v-test.true c.cell-v-in-loop-v.ensures.0)
-
-pub shape_of-cells : goal.shape_of-cells
-shape_of-cells c = c.loop-v.invariant.0 ∙ sym c.requires.1.1.1.1
+pub loop-i-preserved : goal.loop-i-preserved
+loop-i-preserved c =
+    let z = follow-step c.loop-i.invariant.follows c.in-Some.ensures.steps in
+    record {
+      follows = z.follows;
+      long = stamped-length _ _ _ _ c.loop-i.cells c.stamp.ensures ∙ c.loop-i.invariant.long;
+      along = enter-turn c.requires.0 c.args.p c.requires.1.0 c.requires.1.1.0 z c.loop-i.invariant.along.0 c.read-pointer.ensures c.in_instance.ensures c.loop-i.cells c.loop-i.invariant.long c.stamp.ensures c.loop-i.invariant.along;
+    }
 
 pub returns : goal.returns
 returns c =
-    (enter-end c.requires.0 c.args.p c.requires.1.0 c.requires.1.1.0 c.loop-v.cells c.loop-v.invariant.1 c.loop-v-test.false, c.loop-v.invariant.0)
+    (enter-end c.requires.0 c.args.p c.requires.1.0 c.requires.1.1.0 c.loop-i.cells c.loop-i.invariant.along (follow-end c.in-None.ensures.steps), c.loop-i.invariant.long)

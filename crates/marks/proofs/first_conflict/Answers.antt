@@ -1,74 +1,96 @@
 -- `marks::first_conflict` meets its contract: no record before p conflicts with an earlier one, and the cells are those that they set.
 -- Assumes nothing.
-use mathlib.Core.Path.{◌∙◌, sym}
-use Prim.Native.Nat.{◌*◌}
-use native.Mathlib.Omega.{arith}
-use Rattle.names.specs.Scans.{found_of}
-use Rattle.names.proofs.Scans.{at-found, nothing-found, found_some}
+use Rattle.std.specs.Prelude.{Some}
+use mathlib.Core.Bool.{Bool, false, true}
+use mathlib.Core.List.{List}
+use mathlib.Core.Path.{◌∙◌, ◌≡◌, refl, sym}
+use Prim.Native.Nat.{ℕ, ◌*◌, ◌<◌}
+use lib.ListN.{get_or, length}
+use Rattle.names.specs.Lists.{In, first}
 use Rattle.names.proofs.Tests.{not_none}
-use mathlib.Core.Option.{none}
-use Rattle.recipe.proofs.Going.{going_end, going-hit, going_on, going_start, here, on_fits, on-more}
-use Rattle.shadow.proofs.Cells.{step-next}
-use Rattle.recipe.specs.Records.{is_pointer, kind}
+use Rattle.recipe.specs.Records.{Recipe, is_pointer, kind, next, places, pointer_kind, recipe_at}
+use Rattle.recipe.specs.declared.Records.{Records}
 use Rattle.recipe.proofs.Bodies.{pointer-kind}
-use Rattle.marks.proofs.Threads.{along-all, along-skip}
-use Rattle.marks.specs.Cells.{Stamped}
-use Rattle.marks.specs.Faults.{conflicts_with_earlier, fault₉}
+use Rattle.recipe.proofs.Going.{Going, Here, going_end, going-hit, going_more, going_start, here}
+use Rattle.recipe.proofs.Steps.{At, over-end, over-start, over-step}
+use Rattle.shadow.proofs.Cells.{step-next}
 use Rattle.marks.proofs.Pass.{no_pointer, stamped-none, stamped-same}
+use Rattle.marks.proofs.Threads.{along-all, along-skip}
+use Rattle.marks.specs.Cells.{MarksRequires, Stamped}
+use Rattle.marks.specs.Faults.{conflicts_with_earlier, fault₉}
 use Rattle.marks.proofs.first_conflict.Goals as goal
+
+-- ---- one step over the records: to the one at p, and on
+module _ {s : Recipe} {a b : Records} {p : ℕ} (z : At s a p b) where
+  on-next : b.at ≡ next s p
+  on-next = z.on ∙ step-next s p refl
+
+  module _ {t inst : List ℕ} (T : MarksRequires s t inst) (g : Going s (conflicts_with_earlier s) a.at) where
+    this : Here s (conflicts_with_earlier s) p
+    this = here s (conflicts_with_earlier s) p T.planted.measured.linked.numbered.shadowed.whole (rw z.place at g) z.inside
+
+    hit : {m : Bool} → m ≡ conflicts_with_earlier s p → m ≡ true → Some p ≡ first (conflicts_with_earlier s) (places s)
+    hit q h = sym (going-hit this (sym q ∙ h))
+
+    missed : {m : Bool} → m ≡ conflicts_with_earlier s p → m ≡ false → Going s (conflicts_with_earlier s) b.at
+    missed q h = rw on-next (going_more this (sym q ∙ h))
+
+    module _ {u : List ℕ} (S : Stamped s (λ q. q.place < a.at) u) {k : Bool} (sort : k ≡ pointer_kind (get_or s.bytes p 0)) where
+      sort-is : is_pointer s p ≡ k
+      unfolding kind
+      sort-is = pointer-kind s p ∙ sym sort
+
+      -- what `conflicts_at` and `enter_at` require
+      of-pointer : k ≡ true → length u ≡ 12 * 1024 → MarksRequires s t inst × (In p (places s) × ((is_pointer s p ≡ true) × (Stamped s (λ q. q.place < p) u × (length u ≡ 12 * 1024))))
+      of-pointer h l = (T, (this.place, (sort-is ∙ h, (rw z.place at S, l))))
+
+      passed : k ≡ false → Going s (conflicts_with_earlier s) b.at × Stamped s (λ q. q.place < b.at) u
+      passed h =
+          rw on-next
+          (going_more this (no_pointer s p (sort-is ∙ h)), along-skip s (is_pointer s) (λ D. Stamped s D u) (stamped-same s u) p this.place (sort-is ∙ h) (rw z.place at S))
 
 pub loop-p-init : goal.loop-p-init
 loop-p-init c =
-    let z = stamped-none (record { width = c.args.w; bytes = c.args.s.now }) (12 * 1024) c.requires.1 in (omega arith, (going_start _ _, z))
-
-pub record_length-requires : goal.record_length-requires
-record_length-requires c = omega (arith, c.requires.0.planted.measured.linked.numbered.shadowed.narrow)
-
-pub overflow_add-next : goal.overflow_add-next
-overflow_add-next c =
-    omega (arith, on_fits (here (record { width = c.args.w; bytes = c.args.s.now }) (conflicts_with_earlier (record { width = c.args.w; bytes = c.args.s.now })) c.loop-p.p c.requires.0.planted.measured.linked.numbered.shadowed.whole c.loop-p.invariant.1.0 c.loop-p-test.true) c.record_length.ensures)
+    let s = recipe_at c.args.w c.args.s.now in
+    let o = over-start s c.of-p-items.ensures c.into_iter-p-iterator.ensures.into_iter_gives in
+    let none = stamped-none s (12 * 1024) c.requires.1 in
+    record { over = o.0; going = rw o.1 (going_start s (conflicts_with_earlier s)); stamped = rw o.1 none.0; long = none.1 }
 
 pub conflicts_at-requires : goal.conflicts_at-requires
-unfolding kind
 conflicts_at-requires c =
-    (c.requires.0, ((here (record { width = c.args.w; bytes = c.args.s.now }) (conflicts_with_earlier (record { width = c.args.w; bytes = c.args.s.now })) c.loop-p.p c.requires.0.planted.measured.linked.numbered.shadowed.whole c.loop-p.invariant.1.0 c.loop-p-test.true).place, ((pointer-kind (record { width = c.args.w; bytes = c.args.s.now }) c.loop-p.p ∙ (sym c.is_pointer.ensures ∙ c.if-is_pointer.true)), c.loop-p.invariant.1.1)))
-
-pub shape_of-cells-then-conflicts_at : goal.shape_of-cells-then-conflicts_at
-shape_of-cells-then-conflicts_at c =
-    c.loop-p.invariant.1.1.1 ∙ sym (stamped-none (record { width = c.args.w; bytes = c.args.s.now }) (12 * 1024) c.requires.1).1
+    let z = over-step c.loop-p.invariant.over c.in-Some.ensures.steps in
+    of-pointer z c.requires.0 c.loop-p.invariant.going c.loop-p.invariant.stamped c.is_pointer.ensures c.if-is_pointer.true c.loop-p.invariant.long
 
 pub returns-then-conflicts_at : goal.returns-then-conflicts_at
-unfolding fault₉ found_of
+unfolding fault₉
 returns-then-conflicts_at c =
-    (at-found (going-hit (here (record { width = c.args.w; bytes = c.args.s.now }) (conflicts_with_earlier (record { width = c.args.w; bytes = c.args.s.now })) c.loop-p.p c.requires.0.planted.measured.linked.numbered.shadowed.whole c.loop-p.invariant.1.0 c.loop-p-test.true) (sym c.conflicts_at.ensures ∙ c.if-conflicts_at.true)), λ z. not_none (found_some {o = none} z))
+    let z = over-step c.loop-p.invariant.over c.in-Some.ensures.steps in
+    (hit z c.requires.0 c.loop-p.invariant.going c.conflicts_at.ensures c.if-conflicts_at.true, λ e. not_none (sym e))
 
 pub enter_at-requires : goal.enter_at-requires
-unfolding kind
 enter_at-requires c =
-    (c.requires.0, ((here (record { width = c.args.w; bytes = c.args.s.now }) (conflicts_with_earlier (record { width = c.args.w; bytes = c.args.s.now })) c.loop-p.p c.requires.0.planted.measured.linked.numbered.shadowed.whole c.loop-p.invariant.1.0 c.loop-p-test.true).place, ((pointer-kind (record { width = c.args.w; bytes = c.args.s.now }) c.loop-p.p ∙ (sym c.is_pointer.ensures ∙ c.if-is_pointer.true)), c.loop-p.invariant.1.1)))
-
-pub loop-p-smaller-then-is_pointer : goal.loop-p-smaller-then-is_pointer
-loop-p-smaller-then-is_pointer c =
-    omega (arith, on_fits (here (record { width = c.args.w; bytes = c.args.s.now }) (conflicts_with_earlier (record { width = c.args.w; bytes = c.args.s.now })) c.loop-p.p c.requires.0.planted.measured.linked.numbered.shadowed.whole c.loop-p.invariant.1.0 c.loop-p-test.true) c.record_length.ensures, on-more _ _ c.record_length.ensures)
+    let z = over-step c.loop-p.invariant.over c.in-Some.ensures.steps in
+    of-pointer z c.requires.0 c.loop-p.invariant.going c.loop-p.invariant.stamped c.is_pointer.ensures c.if-is_pointer.true c.loop-p.invariant.long
 
 pub loop-p-preserved-then-is_pointer : goal.loop-p-preserved-then-is_pointer
 loop-p-preserved-then-is_pointer c =
-    (on_fits (here (record { width = c.args.w; bytes = c.args.s.now }) (conflicts_with_earlier (record { width = c.args.w; bytes = c.args.s.now })) c.loop-p.p c.requires.0.planted.measured.linked.numbered.shadowed.whole c.loop-p.invariant.1.0 c.loop-p-test.true) c.record_length.ensures, (going_on (here (record { width = c.args.w; bytes = c.args.s.now }) (conflicts_with_earlier (record { width = c.args.w; bytes = c.args.s.now })) c.loop-p.p c.requires.0.planted.measured.linked.numbered.shadowed.whole c.loop-p.invariant.1.0 c.loop-p-test.true) (sym c.conflicts_at.ensures ∙ c.if-conflicts_at.false) c.record_length.ensures, (rw (step-next (record { width = c.args.w; bytes = c.args.s.now }) c.loop-p.p c.record_length.ensures) c.enter_at.ensures.0, c.enter_at.ensures.1)))
-
-pub loop-p-smaller : goal.loop-p-smaller
-loop-p-smaller c =
-    omega (arith, on_fits (here (record { width = c.args.w; bytes = c.args.s.now }) (conflicts_with_earlier (record { width = c.args.w; bytes = c.args.s.now })) c.loop-p.p c.requires.0.planted.measured.linked.numbered.shadowed.whole c.loop-p.invariant.1.0 c.loop-p-test.true) c.record_length.ensures, on-more _ _ c.record_length.ensures)
+    let z = over-step c.loop-p.invariant.over c.in-Some.ensures.steps in
+    record {
+      over = z.over;
+      going = missed z c.requires.0 c.loop-p.invariant.going c.conflicts_at.ensures c.if-conflicts_at.false;
+      stamped = rw (on-next z) c.enter_at.ensures.0;
+      long = c.enter_at.ensures.1;
+    }
 
 pub loop-p-preserved : goal.loop-p-preserved
-unfolding kind
 loop-p-preserved c =
-    let k = (pointer-kind (record { width = c.args.w; bytes = c.args.s.now }) c.loop-p.p ∙ (sym c.is_pointer.ensures ∙ c.if-is_pointer.false)) in (on_fits (here (record { width = c.args.w; bytes = c.args.s.now }) (conflicts_with_earlier (record { width = c.args.w; bytes = c.args.s.now })) c.loop-p.p c.requires.0.planted.measured.linked.numbered.shadowed.whole c.loop-p.invariant.1.0 c.loop-p-test.true) c.record_length.ensures, (going_on (here (record { width = c.args.w; bytes = c.args.s.now }) (conflicts_with_earlier (record { width = c.args.w; bytes = c.args.s.now })) c.loop-p.p c.requires.0.planted.measured.linked.numbered.shadowed.whole c.loop-p.invariant.1.0 c.loop-p-test.true) (no_pointer (record { width = c.args.w; bytes = c.args.s.now }) c.loop-p.p k) c.record_length.ensures, (rw (step-next (record { width = c.args.w; bytes = c.args.s.now }) c.loop-p.p c.record_length.ensures) (along-skip (record { width = c.args.w; bytes = c.args.s.now }) (is_pointer (record { width = c.args.w; bytes = c.args.s.now })) (λ D. Stamped (record { width = c.args.w; bytes = c.args.s.now }) D c.loop-p.cells) (stamped-same (record { width = c.args.w; bytes = c.args.s.now }) c.loop-p.cells) c.loop-p.p (here (record { width = c.args.w; bytes = c.args.s.now }) (conflicts_with_earlier (record { width = c.args.w; bytes = c.args.s.now })) c.loop-p.p c.requires.0.planted.measured.linked.numbered.shadowed.whole c.loop-p.invariant.1.0 c.loop-p-test.true).place k c.loop-p.invariant.1.1.0), c.loop-p.invariant.1.1.1)))
-
-pub shape_of-cells : goal.shape_of-cells
-shape_of-cells c =
-    c.loop-p.invariant.1.1.1 ∙ sym (stamped-none (record { width = c.args.w; bytes = c.args.s.now }) (12 * 1024) c.requires.1).1
+    let z = over-step c.loop-p.invariant.over c.in-Some.ensures.steps in
+    let r = passed z c.requires.0 c.loop-p.invariant.going c.loop-p.invariant.stamped c.is_pointer.ensures c.if-is_pointer.false in
+    record { over = z.over; going = r.0; stamped = r.1; long = c.loop-p.invariant.long }
 
 pub returns : goal.returns
-unfolding fault₉ found_of
+unfolding fault₉
 returns c =
-    (nothing-found (going_end c.loop-p.invariant.1.0 c.loop-p-test.false), λ z. (along-all (record { width = c.args.w; bytes = c.args.s.now }) (is_pointer (record { width = c.args.w; bytes = c.args.s.now })) (λ D. Stamped (record { width = c.args.w; bytes = c.args.s.now }) D c.loop-p.cells) (stamped-same (record { width = c.args.w; bytes = c.args.s.now }) c.loop-p.cells) c.loop-p.p c.loop-p-test.false c.loop-p.invariant.1.1.0, c.loop-p.invariant.1.1.1))
+    let s = recipe_at c.args.w c.args.s.now in
+    let end = over-end c.loop-p.invariant.over c.in-None.ensures.steps in
+    (sym (going_end c.loop-p.invariant.going end), λ z. (along-all s (is_pointer s) (λ D. Stamped s D c.loop-p.cells) (stamped-same s c.loop-p.cells) c.loop-p.p-iterator.at end c.loop-p.invariant.stamped, c.loop-p.invariant.long))

@@ -3,7 +3,6 @@
 use Prim.Native.Nat.{◌-◌}
 use mathlib.Core.Path.{sym, ◌∙◌}
 use native.Mathlib.Omega.{arith}
-use Rattle.names.proofs.Scans.{at-found, nothing-found}
 use Rattle.name_index.proofs.Finds.{ranks, seen_start, seen-new, seen_other, seen-pass, seen_at, seen_none}
 use Rattle.name_index.proofs.first_repeat.Goals as goal
 
@@ -26,8 +25,8 @@ loop-k-preserved c = (omega arith, seen-pass _ _ _ c.loop-k.invariant.1 c.if-p-b
 
 pub returns-then-best-n : goal.returns-then-best-n
 returns-then-best-n c =
-    at-found (seen_at _ _ _ (ranks c.requires) c.loop-k.invariant.1 c.loop-k-test.false c.if-best-n.true)
+    sym (seen_at _ _ _ (ranks c.requires) c.loop-k.invariant.1 c.loop-k-test.false c.if-best-n.true)
 
 pub returns : goal.returns
 returns c =
-    nothing-found (seen_none _ _ _ (ranks c.requires) c.loop-k.invariant.1 c.loop-k-test.false c.if-best-n.false)
+    sym (seen_none _ _ _ (ranks c.requires) c.loop-k.invariant.1 c.loop-k-test.false c.if-best-n.false)

@@ -7,7 +7,7 @@ use Rattle.origins.proofs.walk_composed.Goals as goal
 
 pub returns-then-name-f : goal.returns-then-name-f
 returns-then-name-f c =
-    c.refusal.ensures ∙ other_length c.requires c.args.name.now c.field_width-f.ensures (λ q. omega (arith, c.if-name-f.true))
+    c.from.ensures ∙ other_length c.requires c.args.name.now c.field_width-f.ensures (λ q. omega (arith, c.if-name-f.true))
 
 pub find_origin-requires : goal.find_origin-requires
 find_origin-requires c =
@@ -15,12 +15,12 @@ find_origin-requires c =
 
 pub returns-in_default : goal.returns-in_default
 returns-in_default c =
-    c.refusal-in_default.ensures ∙ no_origin c.requires c.args.name.now (sym c.in_default.is ∙ c.find_origin.ensures)
+    c.from-in_default.ensures ∙ no_origin c.requires c.args.name.now (sym c.in_default.is ∙ c.find_origin.ensures)
 
 pub origin_at-requires : goal.origin_at-requires
 origin_at-requires c =
-    origin-requires c.requires c.args.name.now (sym c.in-At.is ∙ c.find_origin.ensures)
+    origin-requires c.requires c.args.name.now (sym c.in-Some.is ∙ c.find_origin.ensures)
 
 pub returns : goal.returns
 returns c =
-    origin-found c.requires c.args.name.now (sym c.in-At.is ∙ c.find_origin.ensures) c.origin_at.ensures
+    origin-found c.requires c.args.name.now (sym c.in-Some.is ∙ c.find_origin.ensures) c.origin_at.ensures

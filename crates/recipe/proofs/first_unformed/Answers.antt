@@ -2,7 +2,6 @@
 -- Assumes nothing.
 use mathlib.Core.Path.{sym, ◌∙◌}
 use native.Mathlib.Omega.{arith}
-use Rattle.names.proofs.Scans.{at-found, nothing-found}
 use Rattle.recipe.proofs.Going.{here, going_start, going-hit, going_on, on_fits, on-more, going_end}
 use Rattle.recipe.proofs.Fields.{read-form, refused-form, fault-3}
 use Rattle.recipe.proofs.first_unformed.Goals as goal
@@ -15,7 +14,7 @@ read_record-requires c = (here _ _ _ c.requires.1 c.loop-p.invariant.0 c.loop-p-
 
 pub returns-in_default : goal.returns-in_default
 returns-in_default c =
-    at-found (fault-3 _ ∙ going-hit (here _ _ _ c.requires.1 c.loop-p.invariant.0 c.loop-p-test.true) (refused-form _ _ (here _ _ _ c.requires.1 c.loop-p.invariant.0 c.loop-p-test.true).readable (sym c.in_default.is ∙ c.read_record.ensures)))
+    sym (fault-3 _ ∙ going-hit (here _ _ _ c.requires.1 c.loop-p.invariant.0 c.loop-p-test.true) (refused-form _ _ (here _ _ _ c.requires.1 c.loop-p.invariant.0 c.loop-p-test.true).readable (sym c.in_default.is ∙ c.read_record.ensures)))
 
 pub overflow_add-p : goal.overflow_add-p
 overflow_add-p c =
@@ -27,7 +26,7 @@ loop-p-smaller c =
 
 pub loop-p-preserved : goal.loop-p-preserved
 loop-p-preserved c =
-    (going_on (here _ _ _ c.requires.1 c.loop-p.invariant.0 c.loop-p-test.true) (read-form _ _ (sym c.in-As.is ∙ c.read_record.ensures)) c.record_length-p.ensures, on_fits (here _ _ _ c.requires.1 c.loop-p.invariant.0 c.loop-p-test.true) c.record_length-p.ensures)
+    (going_on (here _ _ _ c.requires.1 c.loop-p.invariant.0 c.loop-p-test.true) (read-form _ _ (sym c.in-Some.is ∙ c.read_record.ensures)) c.record_length-p.ensures, on_fits (here _ _ _ c.requires.1 c.loop-p.invariant.0 c.loop-p-test.true) c.record_length-p.ensures)
 
 pub returns : goal.returns
-returns c = nothing-found (fault-3 _ ∙ going_end c.loop-p.invariant.0 c.loop-p-test.false)
+returns c = sym (fault-3 _ ∙ going_end c.loop-p.invariant.0 c.loop-p-test.false)

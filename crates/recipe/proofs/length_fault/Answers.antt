@@ -1,11 +1,11 @@
 -- `recipe::length_fault` meets its contract, whatever the name width: by the test.
 -- Assumes nothing.
-use Rattle.names.proofs.Scans.{at-found, nothing-found}
+use mathlib.Core.Path.{sym}
 use Rattle.recipe.proofs.Rows.{length-refused, length-passed}
 use Rattle.recipe.proofs.length_fault.Goals as goal
 
 pub returns-then-s : goal.returns-then-s
-returns-then-s c = λ w. at-found (length-refused _ c.if-s.true)
+returns-then-s c = λ w. sym (length-refused _ c.if-s.true)
 
 pub returns : goal.returns
-returns c = λ w. nothing-found (length-passed _ c.if-s.false)
+returns c = λ w. sym (length-passed _ c.if-s.false)

@@ -48,4 +48,4 @@ overflow_add-result-3 c =
 
 pub returns : goal.returns
 returns c =
-    mark-read _ _ (mark-is _ _ c.requires) _ (mark-target _ _ c.requires c.submodel_offset-o.ensures).begins (is_name_lem _ (sym c.in-Name.is ∙ c.field_at.ensures)) (is_name_lem _ (sym c.in-Name-field_at.is ∙ c.field_at-2.ensures)) (sym c.in-Named.is ∙ c.read_target.ensures)
+    mark-read _ _ (mark-is _ _ c.requires) _ (mark-target _ _ c.requires c.submodel_offset-o.ensures).begins (is_name_lem _ (sym c.in-Name.is ∙ c.field_at.ensures)) (is_name_lem _ (sym c.in-Name-field_at.is ∙ c.field_at-2.ensures)) (sym c.in-Some.is ∙ c.read_target.ensures)

@@ -22,4 +22,4 @@ returns-in_default-read_target c =
 
 pub returns : goal.returns
 returns c =
-    port-read _ _ c.requires.kinded (is_name_lem _ (sym c.in-Name.is ∙ c.field_at.ensures)) (is-optional _ c.field_at-2.ensures (not-neither c.in-Name-field_at.is)) (sym c.in-Named.is ∙ c.read_target.ensures)
+    port-read _ _ c.requires.kinded (is_name_lem _ (sym c.in-Name.is ∙ c.field_at.ensures)) (is-optional _ c.field_at-2.ensures (not-neither c.in-Name-field_at.is)) (sym c.in-Some.is ∙ c.read_target.ensures)

@@ -41,14 +41,14 @@ returns-in_default c = unmarked _ _ (sym c.in_default.is ∙ c.read_mark.ensures
 pub returns-then-is_deletion : goal.returns-then-is_deletion
 unfolding kind
 returns-then-is_deletion c =
-    deletion-read (record { width = c.args.w; bytes = c.args.s.now }) c.args.p (sym c.is_deletion.ensures ∙ c.if-is_deletion.true) (sym c.in-Marks.is ∙ c.read_mark.ensures)
+    deletion-read (record { width = c.args.w; bytes = c.args.s.now }) c.args.p (sym c.is_deletion.ensures ∙ c.if-is_deletion.true) (sym c.in-Some.is ∙ c.read_mark.ensures)
 
 pub returns-then-is_replaced_by : goal.returns-then-is_replaced_by
 unfolding kind
 returns-then-is_replaced_by c =
-    replaced-by-read (record { width = c.args.w; bytes = c.args.s.now }) c.args.p (sym c.is_replaced_by.ensures ∙ c.if-is_replaced_by.true) (sym c.in-Marks.is ∙ c.read_mark.ensures)
+    replaced-by-read (record { width = c.args.w; bytes = c.args.s.now }) c.args.p (sym c.is_replaced_by.ensures ∙ c.if-is_replaced_by.true) (sym c.in-Some.is ∙ c.read_mark.ensures)
 
 pub returns : goal.returns
 unfolding kind
 returns c =
-    replacement-read (record { width = c.args.w; bytes = c.args.s.now }) c.args.p (sym c.is_mark.ensures ∙ c.if-not-is_mark.false) (sym c.is_deletion.ensures ∙ c.if-is_deletion.false) (sym c.is_replaced_by.ensures ∙ c.if-is_replaced_by.false) (sym c.in-Marks.is ∙ c.read_mark.ensures)
+    replacement-read (record { width = c.args.w; bytes = c.args.s.now }) c.args.p (sym c.is_mark.ensures ∙ c.if-not-is_mark.false) (sym c.is_deletion.ensures ∙ c.if-is_deletion.false) (sym c.is_replaced_by.ensures ∙ c.if-is_replaced_by.false) (sym c.in-Some.is ∙ c.read_mark.ensures)

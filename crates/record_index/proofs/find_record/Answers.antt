@@ -17,16 +17,16 @@ returns-in_default c =
 
 pub cell-p-requires : goal.cell-p-requires
 cell-p-requires c =
-    let pre = c.requires in let e = sym c.in-At.is ∙ c.find.ensures in omega (arith, sought-low pre.0 pre.1 c.tag.ensures.0 c.field_at-f.ensures c.key-k.ensures e)
+    let pre = c.requires in let e = sym c.in-Some.is ∙ c.find.ensures in omega (arith, sought-low pre.0 pre.1 c.tag.ensures.0 c.field_at-f.ensures c.key-k.ensures e)
 
 pub bounds-s-p : goal.bounds-s-p
 bounds-s-p c =
-    let pre = c.requires in let e = sym c.in-At.is ∙ c.find.ensures in let a = c.args in let R : Recipe = record { width = a.w; bytes = a.s.now } in omega (arith, cell-first c.args.at.now c.in-At.i c.cell-p.ensures.0, place-room R _ (sought-in pre.0 pre.1 c.tag.ensures.0 c.field_at-f.ensures c.key-k.ensures e))
+    let pre = c.requires in let e = sym c.in-Some.is ∙ c.find.ensures in let a = c.args in let R : Recipe = record { width = a.w; bytes = a.s.now } in omega (arith, cell-first c.args.at.now c.in-Some.i c.cell-p.ensures.0, place-room R _ (sought-in pre.0 pre.1 c.tag.ensures.0 c.field_at-f.ensures c.key-k.ensures e))
 
 pub returns-then-s-p : goal.returns-then-s-p
 returns-then-s-p c =
-    let pre = c.requires in let e = sym c.in-At.is ∙ c.find.ensures in sought-some pre.0 pre.1 c.tag.ensures.0 c.field_at-f.ensures c.key-k.ensures e (cell-first c.args.at.now c.in-At.i c.cell-p.ensures.0) c.if-s-p.true
+    let pre = c.requires in let e = sym c.in-Some.is ∙ c.find.ensures in sought-some pre.0 pre.1 c.tag.ensures.0 c.field_at-f.ensures c.key-k.ensures e (cell-first c.args.at.now c.in-Some.i c.cell-p.ensures.0) c.if-s-p.true
 
 pub returns : goal.returns
 returns c =
-    let pre = c.requires in let e = sym c.in-At.is ∙ c.find.ensures in sought-other pre.0 pre.1 c.tag.ensures.0 c.field_at-f.ensures c.key-k.ensures e (cell-first c.args.at.now c.in-At.i c.cell-p.ensures.0) c.if-s-p.false
+    let pre = c.requires in let e = sym c.in-Some.is ∙ c.find.ensures in sought-other pre.0 pre.1 c.tag.ensures.0 c.field_at-f.ensures c.key-k.ensures e (cell-first c.args.at.now c.in-Some.i c.cell-p.ensures.0) c.if-s-p.false

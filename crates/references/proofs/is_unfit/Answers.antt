@@ -18,12 +18,6 @@ overflow_mul-z-2 c = omega (arith, row_room c.requires.0.row₇ c.requires.0.row
 pub cell-gone-requires : goal.cell-gone-requires
 cell-gone-requires c = omega (arith, row_room c.requires.0.row₇ c.requires.0.rows c.requires.1)
 
-pub overflow_add-q : goal.overflow_add-q
-overflow_add-q c = omega (arith, row-class c.requires.0 c.requires.1 c.cell-q.ensures.0)
-
-pub overflow_add-q-2 : goal.overflow_add-q-2
-overflow_add-q-2 c = omega (arith, row-class c.requires.0 c.requires.1 c.cell-q.ensures.0)
-
 pub bounds-s-q : goal.bounds-s-q
 bounds-s-q c = omega (arith, row-class c.requires.0 c.requires.1 c.cell-q.ensures.0)
 

@@ -12,9 +12,6 @@ pub returns-then-q-eq0 : goal.returns-then-q-eq0
 returns-then-q-eq0 c =
     (end_none c.requires.0 c.requires.1.0 c.requires.1.1.0 c.requires.1.1.1 c.cell-q.ensures.0 c.if-q-eq0.true, omega arith)
 
-pub cell-a-requires : goal.cell-a-requires
-cell-a-requires c = omega (arith, referring-room c.requires.0 c.requires.1.0 c.requires.1.1.0 c.requires.1.1.1)
-
 pub cell-b-requires : goal.cell-b-requires
 cell-b-requires c =
     omega (arith, sibling-room c.requires.0 c.requires.1.1.1 _ (named-tree c.requires.0 c.requires.1.0 c.requires.1.1.0 c.requires.1.1.1 c.cell-q.ensures.0 c.if-q-eq0.false))
@@ -30,10 +27,6 @@ overflow_add-e c =
 pub chain_end-requires : goal.chain_end-requires
 chain_end-requires c =
     reference-steps c.requires.0 c.requires.1.0 c.requires.1.1.0 c.requires.1.1.1 c.cell-q.ensures.0 c.if-q-eq0.false c.cell-a.ensures.0 c.cell-b.ensures.0
-
-pub overflow_add-result : goal.overflow_add-result
-overflow_add-result c =
-    omega (arith, end-few c.requires.0 c.requires.1.0 c.requires.1.1.0 c.requires.1.1.1 c.cell-q.ensures.0 c.if-q-eq0.false c.cell-a.ensures.0 c.cell-b.ensures.0 c.chain_end.ensures)
 
 pub returns : goal.returns
 returns c =

@@ -26,16 +26,20 @@ refers_to_none-requires c =
 
 pub returns-then-refers_to_none : goal.returns-then-refers_to_none
 returns-then-refers_to_none c =
-    fault-blank c.requires.0 (row-element c.requires.0.row₇ c.requires.0.rows c.requires.1.0 c.cell-p.ensures.0) c.requires.1.1 c.refers_to_none.ensures c.if-refers_to_none.true c.reference_may_be_blank.ensures
+    let e = row-element c.requires.0.row₇ c.requires.0.rows c.requires.1.0 c.cell-p.ensures.0 in
+    fault-blank c.requires.0 e c.refers_to_none.ensures c.if-refers_to_none.true c.reference_may_be_blank.ensures
 
-pub returns-then-z-eq0 : goal.returns-then-z-eq0
-returns-then-z-eq0 c =
-    fault-none c.requires.0 (row-element c.requires.0.row₇ c.requires.0.rows c.requires.1.0 c.cell-p.ensures.0) c.requires.1.1 c.refers_to_none.ensures c.if-refers_to_none.false c.if-z-eq0.true
+pub returns-in_default : goal.returns-in_default
+returns-in_default c =
+    let e = row-element c.requires.0.row₇ c.requires.0.rows c.requires.1.0 c.cell-p.ensures.0 in
+    fault-none c.requires.0 e c.refers_to_none.ensures c.if-refers_to_none.false (rw c.in_default.is at c.requires.1.1)
 
 pub is_unfit-requires : goal.is_unfit-requires
 is_unfit-requires c =
-    (c.requires.0, end-numbers c.requires.0 (row-element c.requires.0.row₇ c.requires.0.rows c.requires.1.0 c.cell-p.ensures.0) c.requires.1.1 c.refers_to_none.ensures c.if-z-eq0.false)
+    let e = row-element c.requires.0.row₇ c.requires.0.rows c.requires.1.0 c.cell-p.ensures.0 in
+    (c.requires.0, end-numbers c.requires.0 e c.refers_to_none.ensures (rw c.in-Some.is at c.requires.1.1))
 
 pub returns : goal.returns
 returns c =
-    fault-end c.requires.0 (row-element c.requires.0.row₇ c.requires.0.rows c.requires.1.0 c.cell-p.ensures.0) c.requires.1.1 c.refers_to_none.ensures c.if-z-eq0.false c.if-refers_to_none.false c.is_unfit.ensures
+    let e = row-element c.requires.0.row₇ c.requires.0.rows c.requires.1.0 c.cell-p.ensures.0 in
+    fault-end c.requires.0 e c.refers_to_none.ensures (rw c.in-Some.is at c.requires.1.1) c.if-refers_to_none.false c.is_unfit.ensures

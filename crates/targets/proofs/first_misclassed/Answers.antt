@@ -1,11 +1,10 @@
 -- `targets::first_misclassed` meets its contract: no mark before p is misclassed.
 -- Assumes nothing.
+use mathlib.Core.Path.{sym}
 use borrow.Author.Tests.{eq-eqb, ne_eqb}
 use native.Mathlib.Omega.{arith}
 use mathlib.Core.Bool.{not}
 use mathlib.Core.Path.{◌∙◌, ap}
-use Rattle.names.specs.Scans.{found_of}
-use Rattle.names.proofs.Scans.{at-found, nothing-found}
 use Rattle.recipe.proofs.Going.{going_end, going-hit, going_on, going_start}
 use Rattle.tree.specs.Faults.{fault₁₀}
 use Rattle.targets.proofs.Misclassed.{aim-low, fits-here, misclassed, not-owned, own-low, row_here, this}
@@ -37,9 +36,9 @@ class_of-b-requires c =
     aim-low c.requires c.loop-p.invariant c.loop-p-test.true c.is_owned.ensures c.if-is_owned.true c.cell-then-is_owned.ensures.0
 
 pub returns-then-a-b : goal.returns-then-a-b
-unfolding fault₁₀ found_of
+unfolding fault₁₀
 returns-then-a-b c =
-    at-found (going-hit (this c.requires c.loop-p.invariant c.loop-p-test.true) (misclassed c.requires c.loop-p.invariant c.loop-p-test.true c.is_owned.ensures c.if-is_owned.true c.cell.ensures.0 c.cell-then-is_owned.ensures.0 c.class_of-a.ensures c.class_of-b.ensures ∙ ap not (ne_eqb _ _ c.if-a-b.true)))
+    sym (going-hit (this c.requires c.loop-p.invariant c.loop-p-test.true) (misclassed c.requires c.loop-p.invariant c.loop-p-test.true c.is_owned.ensures c.if-is_owned.true c.cell.ensures.0 c.cell-then-is_owned.ensures.0 c.class_of-a.ensures c.class_of-b.ensures ∙ ap not (ne_eqb _ _ c.if-a-b.true)))
 
 pub record_length-p-requires : goal.record_length-p-requires
 record_length-p-requires c = omega (arith, c.requires.measured.linked.numbered.shadowed.narrow)
@@ -72,5 +71,5 @@ loop-p-preserved c =
     not-owned c.requires c.loop-p.invariant c.loop-p-test.true c.is_owned.ensures c.if-is_owned.false c.record_length-p-else-is_owned.ensures
 
 pub returns : goal.returns
-unfolding fault₁₀ found_of
-returns c = nothing-found (going_end c.loop-p.invariant c.loop-p-test.false)
+unfolding fault₁₀
+returns c = sym (going_end c.loop-p.invariant c.loop-p-test.false)

@@ -1,12 +1,11 @@
 -- `targets::first_untargeted` meets its contract: what is kept is right, and each mark or port before p is kept.
 -- Assumes nothing.
+use mathlib.Core.Path.{sym}
+use Rattle.std.specs.Prelude.{None}
 use mathlib.Core.Path.{◌∙◌}
 use Rattle.shadow.proofs.Cells.{kept_then}
 use Rattle.targets.proofs.Remembering.{cleared-kept, cleared-measured, kept_on, target-asks, target_fits, target_hit, target_more, target-skip, targets-end, targets-start}
 use native.Mathlib.Omega.{arith}
-use mathlib.Core.Option.{none}
-use Rattle.names.specs.Scans.{found_of}
-use Rattle.names.proofs.Scans.{at-found, found_some, nothing-found}
 use Rattle.names.proofs.Tests.{not_none}
 use mathlib.Core.Path.{ap}
 use mathlib.Core.Bool.{not}
@@ -33,9 +32,8 @@ shape_of-t-then-not-resolve_port c =
     (kept_on (cleared-measured c.requires c.clear_cells.ensures) c.loop-p.invariant c.loop-p-test.true c.is_pointer.ensures c.if-is_pointer.true c.resolve_port.ensures).long ∙ (cleared-kept c.requires c.clear_cells.ensures).long
 
 pub returns-then-not-resolve_port : goal.returns-then-not-resolve_port
-unfolding found_of
 returns-then-not-resolve_port c =
-    (at-found (target_hit (cleared-measured c.requires c.clear_cells.ensures) c.loop-p.invariant c.loop-p-test.true c.is_pointer.ensures c.if-is_pointer.true c.resolve_port.ensures (ap not c.if-not-resolve_port.true)), ((λ z. not_none (found_some {o = none} z)), kept_then (cleared-kept c.requires c.clear_cells.ensures) (kept_on (cleared-measured c.requires c.clear_cells.ensures) c.loop-p.invariant c.loop-p-test.true c.is_pointer.ensures c.if-is_pointer.true c.resolve_port.ensures)))
+    (sym (target_hit (cleared-measured c.requires c.clear_cells.ensures) c.loop-p.invariant c.loop-p-test.true c.is_pointer.ensures c.if-is_pointer.true c.resolve_port.ensures (ap not c.if-not-resolve_port.true)), ((λ z. not_none (sym z)), kept_then (cleared-kept c.requires c.clear_cells.ensures) (kept_on (cleared-measured c.requires c.clear_cells.ensures) c.loop-p.invariant c.loop-p-test.true c.is_pointer.ensures c.if-is_pointer.true c.resolve_port.ensures)))
 
 pub record_length-p-requires : goal.record_length-p-requires
 record_length-p-requires c = omega (arith, c.requires.linked.numbered.shadowed.narrow)
@@ -73,4 +71,4 @@ shape_of-t c =
 
 pub returns : goal.returns
 returns c =
-    let e = targets-end (cleared-measured c.requires c.clear_cells.ensures) c.loop-p.invariant c.loop-p-test.false in (nothing-found e.0, ((λ z. e.1), kept_then (cleared-kept c.requires c.clear_cells.ensures) c.loop-p.invariant.kept))
+    let e = targets-end (cleared-measured c.requires c.clear_cells.ensures) c.loop-p.invariant c.loop-p-test.false in (sym e.0, ((λ z. e.1), kept_then (cleared-kept c.requires c.clear_cells.ensures) c.loop-p.invariant.kept))

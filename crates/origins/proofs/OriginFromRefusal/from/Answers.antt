@@ -1,12 +1,10 @@
--- `origins::refusal` meets its contract: its offsets are zeros.
+-- `Origin::from` gives a refusal's number and place, and zeros.
 -- Assumes nothing.
-use mathlib.Core.Path.{refl}
 use Rattle.names.specs.Lists.{padded}
 use Rattle.tree.specs.Tree.{most_depth}
 use Rattle.origins.specs.Origins.{walk_refused}
-use Rattle.origins.proofs.refusal.Goals as goal
+use Rattle.origins.proofs.OriginFromRefusal.from.Goals as goal
 
--- src/lib.rt:158:1
 pub returns : goal.returns
 unfolding walk_refused padded most_depth
-returns c = refl
+returns c = rw c.number.ensures
