@@ -29,25 +29,27 @@ step() {
     count "$1" $? "$outputs/step"
 }
 
-# beside WHAT TARGET: the same for a target of make that only runs, two at a time; `show` shows what it printed.
-whats=() pids=() shown=0
+# beside WHAT TARGET: the same for a target of make that only runs, two at a time; `show` shows what it printed. Its status stands in a file, since the shell forgets that of a process whose number is used again.
+whats=() shown=0
 beside() {
     while [ "$(jobs -rp | wc -l)" -ge 2 ]; do
         sleep 0.2
         show
     done
-    make --no-print-directory "$2" > "$outputs/${#pids[@]}" 2>&1 &
+    local output=$outputs/${#whats[@]}
     whats+=("$1")
-    pids+=($!)
+    {
+        make --no-print-directory "$2" > "$output" 2>&1
+        echo $? > "$output.status"
+    } &
 }
 
 # Shows and counts the targets that are done, each whole, in the order in which they were started.
 show() {
-    while [ "$shown" -lt "${#pids[@]}" ] && ! jobs -rp | grep -qx "${pids[shown]}"; do
+    while [ "$shown" -lt "${#whats[@]}" ] && [ -s "$outputs/$shown.status" ]; do
         echo "== ${whats[shown]}"
         cat "$outputs/$shown"
-        wait "${pids[shown]}"
-        count "${whats[shown]}" $? "$outputs/$shown"
+        count "${whats[shown]}" "$(cat "$outputs/$shown.status")" "$outputs/$shown"
         shown=$((shown + 1))
     done
 }
@@ -74,7 +76,7 @@ beside "walks back: memory" memory-origins
 beside "the printing program" program
 beside "the solver, in C" solver
 beside "stack" stack
-while [ "$shown" -lt "${#pids[@]}" ]; do
+while [ "$shown" -lt "${#whats[@]}" ]; do
     sleep 0.2
     show
 done
