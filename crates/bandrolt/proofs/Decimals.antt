@@ -1,11 +1,11 @@
 -- The kit's digits are 01's decimal, and how many there are.
 -- Assumes nothing.
-use mathlib.Core.Path.{◌≡◌, sym, ap}
+use mathlib.Core.Path.{◌≡◌, sym, ap, ◌∙◌}
 use Prim.Native.Nat.{ℕ, zero, suc, ◌+◌, ◌-◌, ◌/◌, ◌%◌, ◌^◌, ◌≤◌, ◌<◌}
 use native.Mathlib.Omega.{arith}
-use native.Mathlib.Nat.{pow-suc, pow-le-pow_right, one-le-pow, div-lt_self}
+use native.Mathlib.Nat.{pow-suc, one-le-pow, div-lt_self}
 use mathlib.Core.List.{List, [], ◌∷◌, ◌++◌}
-use lib.ListN.{length, length-append}
+use lib.ListN.{length, take, length-append}
 use lib.Dec.{ltb}
 use borrow.Author.Tests.{ltb-false, ltb-true, lt-ltb, le-ltb}
 use Rattle.names.proofs.Tests.{by_cases}
@@ -28,7 +28,7 @@ last-digit : (k : ℕ) → hex_digit_ascii (k % 10) ≡ 48 + k % 10
 last-digit k = let small : k % 10 < 10 = omega arith in rw (lt-ltb (k % 10) 10 small)
 
 -- the fewest digits that hold a number are its decimal
-pub digits_decimal : (n k : ℕ) → IsDigitCount 10 1 k n → last_digits 10 n k ≡ decimal k
+digits_decimal : (n k : ℕ) → IsDigitCount 10 1 k n → last_digits 10 n k ≡ decimal k
 digits_decimal zero k f = absurd (omega arith)
 digits_decimal (suc zero) k f =
     let small : k < 10 = f.1 in
@@ -44,6 +44,10 @@ digits_decimal (suc (suc n)) k f =
     let rest = digits_decimal (suc n) (k / 10) (omega arith, omega arith, λ l. let same : suc n - 1 ≡ n = omega arith in rw same (omega arith)) in
     rw (rest, last-digit k) (sym (decimal-more k large))
 
+-- the first n of a buffer that the kit filled are the number in decimal
+pub digits_are : (n k : ℕ) (digits : List ℕ) → IsDigitCount 10 1 k n → take n digits ≡ last_digits 10 n k → take n digits ≡ decimal k
+digits_are n k digits f e = e ∙ digits_decimal n k f
+
 -- a number below 10 ^ n has at most n digits
 pub decimal-length : (n k : ℕ) → k < 10 ^ suc n → length (decimal k) ≤ suc n
 decimal-length zero k h = let small : k < 10 = h in rw (decimal_digit k small) (omega arith)
@@ -54,14 +58,3 @@ decimal-length (suc n) k h =
     let all = pow-suc 10 (suc n) in
     let rest = decimal-length n (k / 10) (omega arith) in
     rw (decimal-more k (ltb-false k 10 e), length-append) (omega arith))
-
--- a machine word has at most twenty
-pub word-digits : (n k : ℕ) → k < 2 ^ 64 → IsDigitCount 10 1 k n → n ≤ 20
-word-digits n k h f =
-    by_cases (ltb 20 n)
-    (λ e.
-    let many = ltb-true 20 n e in
-    let small : k < 18446744073709551616 = h in
-    let big : 100000000000000000000 ≤ 10 ^ (n - 1) = pow-le-pow_right {n = 10} (omega arith) {i = 20} {j = n - 1} (omega arith) in
-    absurd (omega (arith, f.2 (omega arith))))
-    (λ e. ltb-false 20 n e)

@@ -1,6 +1,6 @@
 -- What flattening answers and writes, printed: the program's output.
 -- Assumes nothing.
-use mathlib.Core.Path.{◌≡◌, sym, ap, ◌∙◌}
+use mathlib.Core.Path.{◌≡◌, refl, sym, ap}
 use Prim.Native.Nat.{ℕ, ◌*◌, ◌≤◌}
 use native.Mathlib.Omega.{arith}
 use mathlib.Core.List.{List}
@@ -20,11 +20,9 @@ use Rattle.composer.specs.Verdicts.{name_width, recipe_of, accepted, verdict, wr
 use Rattle.composer.specs.Printed.{printed_of, printed, input_room, output_room, program_output}
 use Rattle.composer.proofs.Verdicts.{unrefused, enough-room, accepts, refusal-counts, written-table, written-length}
 use Rattle.composer.proofs.Lengths.{flat-bytes}
-use Rattle.bandrolt.specs.Text.{Stands, Lent}
-use Rattle.bandrolt.proofs.Texts.{stands-length}
 
 -- no more bytes are told than were lent
-pub bytes-within : (s : Recipe) (room : ℕ) → (verdict s room).bytes ≤ room
+bytes-within : (s : Recipe) (room : ℕ) → (verdict s room).bytes ≤ room
 unfolding accepted
 bytes-within s room =
     by_cases (eqb (verdict s room).number 0)
@@ -45,7 +43,7 @@ module _ (s : Recipe) (two : 2 ≤ s.width) (out : List ℕ) where
       rw (written-table s out e, accepts s (length out) h fits) (take_at (flat s) (drop (length (flat s)) out) (flat_length s.width * length (survivors s)) long)
 
   -- what is printed of them is what is printed of the recipe
-  pub printed-bytes : printed_of s.width (verdict s (length out)) (take (verdict s (length out)).bytes (written s out)) ≡ printed s (length out)
+  printed-bytes : printed_of s.width (verdict s (length out)) (take (verdict s (length out)).bytes (written s out)) ≡ printed s (length out)
   unfolding printed printed_of
   printed-bytes =
       by_cases (eqb (verdict s (length out)).number 0)
@@ -64,24 +62,9 @@ module _ (input out : List ℕ) {a : Answer} {out' : List ℕ} (e : a ≡ verdic
   unfolding output_room
   told-room l = omega (arith, told-bytes, ap (λ (x : Answer). x.bytes) e, bytes-within (recipe_of input) (length out))
 
--- what stands at the start of a text is the text up to its end
-text-is : {xs text text' : List ℕ} {end : ℕ} → Stands xs text 0 text' end → take end text' ≡ xs
-text-is {xs} {text} {text'} {end} s = rw s.bytes (take_at xs (drop end text) end (omega arith))
-
--- as many bytes are handed on as were read
-pub read_length : (n : ℕ) (input : List ℕ) → n ≤ length input → n ≡ length (take n input)
-read_length n input h = sym (length-take-le n input h)
-
--- the whole: n bytes were read, the output was lent, and the text holds what the program writes
-pub output-stands : (input : List ℕ) (n : ℕ) (out : List ℕ) {a : Answer} {out' text text' : List ℕ} {end : ℕ}
-    → Lent input n out text → a ≡ verdict (recipe_of (take n input)) (length out) → out' ≡ written (recipe_of (take n input)) out
-    → Stands (printed_of name_width a (take a.bytes out')) text 0 text' end
-    → ((end ≤ length text') × (end ≡ length (take end text'))) × (take end text' ≡ program_output (take n input))
-unfolding program_output recipe_of name_width
-output-stands input n out {a} {out'} {text} {text'} {end} l e w s =
-    let told = text-is s in
-    let whole : take input_room (take n input) ≡ take n input = take_all input_room (take n input) (omega (arith, read_length n input (omega arith))) in
-    let all = printed-bytes (recipe_of (take n input)) (omega arith) out in (
-      (omega (arith, stands-length s), omega (arith, ap length told)),
-      told ∙ rw (whole, w, e, all, l.room),
-    )
+  -- the whole: what is printed of the lent output is what the program writes
+  pub output-is : length input ≤ input_room → length out ≡ output_room → printed_of name_width a (take a.bytes out') ≡ program_output input
+  unfolding program_output recipe_of name_width
+  output-is h l =
+      let whole : take input_room input ≡ input = take_all input_room input h in
+      rw (whole, w, e, printed-bytes (recipe_of input) (omega arith) out, l) refl

@@ -1,41 +1,35 @@
--- Bytes that stand in a text: one after the other, and copied there.
+-- What is printed piece by piece: the room of each piece.
 -- Assumes nothing.
-use mathlib.Core.Path.{◌≡◌, sym, ap, ◌∙◌}
-use Prim.Native.Nat.{ℕ, ◌+◌, ◌≤◌}
+use mathlib.Core.Path.{◌≡◌, ap}
+use Prim.Native.Nat.{ℕ}
 use native.Mathlib.Omega.{arith}
-use mathlib.Core.List.{List, [], ◌++◌, append_assoc, append-nil}
-use lib.ListN.{length, take, drop, length-append, length-drop, take-append-drop}
-use lib.Seq.{length-take-le, take_at, take_all, drop-append-add, drop-drop, sets, sets-eq}
-use Rattle.bandrolt.specs.Text.{Stands}
+use mathlib.Core.List.{List, ◌++◌}
+use lib.ListN.{length, length-append}
+use Rattle.bandrolt.specs.Text.{HasRoom}
 
--- nothing stands anywhere
-pub stands-none : (text : List ℕ) (at : ℕ) → at ≤ length text → Stands [] text at text at
-stands-none text at h = record { ends = omega arith; within = h; bytes = rw (append-nil, take-append-drop) }
+-- where both pieces have room the first has
+pub room-first : (text xs ys : List ℕ) → HasRoom text (xs ++ ys) → HasRoom text xs
+room-first text xs ys h = omega (arith, length-append xs ys)
 
-module _ {xs text : List ℕ} {at : ℕ} {text' : List ℕ} {end : ℕ} (a : Stands xs text at text' end) where
-  before-length : length (take at text ++ xs) ≡ end
-  before-length = length-append (take at text) xs ∙ omega (arith, length-take-le at text (omega arith))
+-- and the second behind it
+pub room-then : (text xs ys : List ℕ) {text' : List ℕ} → text' ≡ text ++ xs → HasRoom text (xs ++ ys) → HasRoom text' ys
+room-then text xs ys e h = omega (arith, length-append xs ys, ap length e, length-append text xs)
 
-  -- the text is as long as before
-  pub stands-length : length text' ≡ length text
-  stands-length =
-      ap length a.bytes
-      ∙ (length-append (take at text ++ xs) (drop end text) ∙ omega (arith, before-length, length-drop end text))
+-- five pieces, one behind the other
+module _ (text a b c d e : List ℕ) where
+  pub record Pieces : Type 0 where
+    pub first : HasRoom text a
+    pub second : {t : List ℕ} → t ≡ text ++ a → HasRoom t b
+    pub third : {t u : List ℕ} → t ≡ text ++ a → u ≡ t ++ b → HasRoom u c
+    pub fourth : {t u v : List ℕ} → t ≡ text ++ a → u ≡ t ++ b → v ≡ u ++ c → HasRoom v d
+    pub fifth : {t u v w : List ℕ} → t ≡ text ++ a → u ≡ t ++ b → v ≡ u ++ c → w ≡ v ++ d → HasRoom w e
 
-  -- and what stands behind is put there
-  pub stands-then : {ys text'' : List ℕ} {last : ℕ} → Stands ys text' end text'' last → Stands (xs ++ ys) text at text'' last
-  stands-then {ys} {text''} {last} b =
-      let front : take end text' ≡ take at text ++ xs = rw a.bytes (take_at (take at text ++ xs) (drop end text) end before-length) in
-      let back : drop last text' ≡ drop last text =
-      rw (a.bytes, b.ends, sym before-length) (drop-append-add (take at text ++ xs) (drop (length (take at text ++ xs)) text) (length ys) ∙ drop-drop (length ys) (length (take at text ++ xs)) text) in
+  pub pieces : HasRoom text (a ++ (b ++ (c ++ (d ++ e)))) → Pieces
+  pieces h =
       record {
-        ends = rw length-append (omega arith);
-        within = omega (arith, stands-length);
-        bytes = b.bytes ∙ rw (front, back, append_assoc (take at text) xs ys);
+        first = room-first text a (b ++ (c ++ (d ++ e))) h;
+        second = λ {t} i. room-first t b (c ++ (d ++ e)) (room-then text a (b ++ (c ++ (d ++ e))) i h);
+        third = λ {t} {u} i j. room-first u c (d ++ e) (room-then t b (c ++ (d ++ e)) j (room-then text a (b ++ (c ++ (d ++ e))) i h));
+        fourth = λ {t} {u} {v} i j k. room-first v d e (room-then u c (d ++ e) k (room-then t b (c ++ (d ++ e)) j (room-then text a (b ++ (c ++ (d ++ e))) i h)));
+        fifth = λ {t} {u} {v} {w} i j k l. room-then v d e l (room-then u c (d ++ e) k (room-then t b (c ++ (d ++ e)) j (room-then text a (b ++ (c ++ (d ++ e))) i h)));
       }
-
--- all of the bytes are copied
-pub copied-stands : (xs text : List ℕ) (at : ℕ) {text' : List ℕ} → at + length xs ≤ length text → text' ≡ sets text at (take (length xs) (drop 0 xs)) → Stands xs text at text' (at + length xs)
-copied-stands xs text at h e =
-    let all : take (length xs) (drop 0 xs) ≡ xs = take_all (length xs) xs (omega arith) in
-    record { ends = omega arith; within = h; bytes = e ∙ (ap (sets text at) all ∙ sets-eq xs text at h) }

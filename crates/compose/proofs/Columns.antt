@@ -10,7 +10,6 @@ use Rattle.recipe.specs.Records.{Recipe}
 use Rattle.tree.specs.Faults.{fault₁₀}
 use Rattle.targets.specs.Targeted.{Targeted}
 use Rattle.tree.specs.Tree.{tree_elements}
-use Rattle.marks.specs.Cells.{MarksRequires}
 use Rattle.elements.specs.Columns.{ElementRows, Gones, Nexts}
 use Rattle.references.specs.Ends.{Ends}
 use Rattle.compose.specs.Composed.{Composed}
@@ -18,13 +17,10 @@ use Rattle.marks.specs.Faults.{fault₉, fault₁₁, fault₁₂, fault₂₀}
 use Rattle.elements.specs.Listing.{Listed, Only}
 use Rattle.elements.specs.Steps.{NoSteps}
 use Rattle.factor_ends.specs.FactorEnds.{FactorsRequires}
-use Rattle.elements.proofs.Elements.{column-over, elements-few, known, rows-over}
+use Rattle.elements.proofs.Elements.{column-over, elements-few, rows-over}
 use Rattle.elements.proofs.Listing.{listed-rows}
 
 module _ {s : Recipe} {t inst : List ℕ} {n : ℕ} (T : Targeted s t inst n) where
-  pub ready : MarksRequires s t inst
-  ready = rw T.planted.rows.count at T
-
   module _ (el₀ el₁ : List ℕ) (room : 5 * 1024 ≤ length el₀) (long : length el₁ ≡ length el₀) (L : Listed s (λ x. Unit {0}) el₁) where
     pub rows-listed : ElementRows s el₁
     rows-listed = listed-rows s el₁ (omega (arith, elements-few s T.planted.row₇)) L
@@ -44,11 +40,9 @@ module _ {s : Recipe} {t inst : List ℕ} {n : ℕ} (T : Targeted s t inst n) wh
         gones-stepped = column-over s q 2 (omega arith) (λ z. omega arith) g
 
         -- what row 20 takes
-        pub factors-ready : (el₄ : List ℕ) → Nexts s el₃ → Only 4 el₃ el₄ → FactorsRequires s t inst el₄
+        pub factors-ready : (el₄ : List ℕ) → Nexts s el₃ → Only 4 el₃ el₄ → FactorsRequires s el₄
         factors-ready el₄ x p = record {
-          targeted = ready;
           chains = record {
-            elements = known T;
             rows = rows-over s p (omega arith) rows-stepped;
             nexts = column-over s p 3 (omega arith) (λ z. omega arith) x;
           };

@@ -9,16 +9,16 @@ use Prim.Native.Nat.{ℕ, ◌≤◌, ◌<◌}
 use native.Mathlib.Omega.{arith}
 use lib.ListN.{length}
 use lib.Dec.{eqb, ltb}
-use borrow.Author.Tests.{eqb-false, ltb-false, lt-ltb, le-ltb}
+use borrow.Author.Tests.{eqb-false, ltb-false}
 use Rattle.names.proofs.Tests.{or-none-left, or-none-right}
 use Rattle.names.specs.declared.Reason.TheVariants.{TooLarge}
 use Rattle.names.specs.declared.Refusal.{Refusal}
 use Rattle.names.specs.Judging.{Row, judged, refusal_at, row}
 use Rattle.names.proofs.Judging.{row-applies, row-none}
-use Rattle.recipe.specs.Records.{Recipe, stop}
-use Rattle.recipe.specs.Reading.{at_start, most_bytes, fault₁, fault₂, form_rows}
+use Rattle.recipe.specs.Records.{Recipe}
+use Rattle.recipe.specs.Reading.{at_start, most_bytes, fault₁, form_rows}
 use Rattle.recipe.proofs.Rows.{not-at-start}
-use Rattle.recipe.proofs.Reading.{stop-within, read_through}
+use Rattle.recipe.proofs.Reading.{read_through}
 use Rattle.shadow.specs.Shadow.{Shadowed}
 use Rattle.tree.specs.declared.Size.{Size}
 use Rattle.tree.specs.Faults.{is_too_large, fault₇}

@@ -11,7 +11,7 @@ pub record Width (w : ℕ) : Type 0 where
   pub narrow : w ≤ 64
 
 -- a cell for each byte of the longest recipe, six for each instance, five for each element of the largest tree
-pub record Rooms (t inst el : List ℕ) : Type 0 where
+pub record HasRoom (t inst el : List ℕ) : Type 0 where
   pub cells : 16384 ≤ length t
   pub insts : 384 ≤ length inst
   pub elems : 5120 ≤ length el

@@ -1,6 +1,7 @@
--- What composing hands on is what the room and the writer ask.
+-- What composing hands on is what the room, the prefixes and a field ask.
 -- Assumes nothing.
-use Prim.Native.Nat.{ℕ, ◌*◌, ◌≤◌}
+use Rattle.std.specs.Prelude.{Option}
+use Prim.Native.Nat.{ℕ, ◌*◌, ◌+◌, ◌≤◌}
 use native.Mathlib.Omega.{arith}
 use native.Mathlib.Nat.{mul-le-mul}
 use mathlib.Core.Path.{◌≡◌}
@@ -13,30 +14,17 @@ use Rattle.recipe.specs.Records.{Recipe}
 use Rattle.tree.specs.Tree.{tree_elements}
 use Rattle.compose.specs.Composed.{Composed}
 use Rattle.marks.specs.Marks.{is_gone, survivors}
-use Rattle.flat_names.specs.Rows.{Prefixed, row_width}
+use Rattle.flat_names.specs.Rows.{Naming, row_width}
+use Rattle.flat_names.proofs.Filling.{naming}
 use Rattle.flat_names.proofs.Puts.{rows-room}
-use Rattle.composer.specs.Writing.{FatesRequires, WriterRequires}
+use Rattle.composer.specs.declared.Site.{Site}
+use Rattle.composer.specs.Writing.{SiteInTree}
 use Rattle.elements.proofs.Elements.{elements-few}
 
 module _ {s : Recipe} {t inst el : List ℕ} {insts elems : ℕ} (C : Composed s t inst el insts elems) where
-  pub fates : FatesRequires s el elems
-  fates = record { row₇ = C.targeted.planted.row₇; count = C.count; room = C.elements.room; gones = C.gones }
-
-  pub writer : (pre len : List ℕ) → Prefixed s pre len → WriterRequires s t el pre len elems
-  writer pre len f =
-      let P = C.targeted.planted in
-      let L = P.measured.linked in
-      let S = L.numbered.shadowed in
-      record {
-        naming = record { wide = S.wide; narrow = S.narrow; short = S.short; whole = S.whole; formed = L.row₃; small = P.row₇ };
-        row₅ = L.row₅;
-        shadowed = S;
-        parents = L.parents;
-        fates = fates;
-        elements = C.elements;
-        ends = C.ends;
-        prefixes = f;
-      }
+  -- a field, of the recipe whose prefixes are filled
+  pub field-requires : {r : Recipe} → r ≡ s → (o : Option Site) (at : ℕ) {n : ℕ} → SiteInTree s o → at + flat_width s.width ≤ n → Naming r × (SiteInTree r o × (at + flat_width r.width ≤ n))
+  field-requires e o at i l = rw e (naming C.targeted.planted, (i, l))
 
   pub narrow : s.width ≤ 64
   narrow = C.targeted.planted.measured.linked.numbered.shadowed.narrow

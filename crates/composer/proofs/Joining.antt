@@ -15,8 +15,9 @@ use Rattle.recipe.specs.Records.{Recipe}
 use Rattle.marks.specs.Marks.{survivors}
 use Rattle.composer.specs.declared.Answer.{Answer}
 use Rattle.composer.specs.Flat.{flat}
+use Rattle.compose.specs.Rooms.{Width}
 use Rattle.compose.specs.Rows.{Unrefused, refusal_of}
-use Rattle.composer.specs.Verdicts.{accepted, refused, verdict, written}
+use Rattle.composer.specs.Verdicts.{accepted, name_width, recipe_of, refused, verdict, written}
 use Rattle.composer.proofs.Verdicts.{refuses, accepts, lacks-room, written-table, written-not}
 
 module _ (s : Recipe) where
@@ -59,3 +60,8 @@ module _ (s : Recipe) where
       pub table-written : (after : List ℕ) → after ≡ flat s ++ drop (length (flat s)) out → after ≡ written s out
       unfolding accepted
       table-written after e = e ∙ sym (written-table s out (ap (λ (a : Answer). a.number) (accepts s (length out) h enough)))
+
+-- a recipe of 01's name width has a width that composing takes
+pub width-fits : {r : Recipe} (b : List ℕ) → r ≡ recipe_of b → Width r.width
+unfolding recipe_of name_width
+width-fits b e = let w = ap (λ (r : Recipe). r.width) e in record { wide = omega (arith, w); narrow = omega (arith, w) }

@@ -8,6 +8,7 @@ pub mod Verdicts
 pub mod Printed
 pub mod ByNumber
 pub mod Fields
+pub mod Surviving
 pub mod Writing
 pub mod Room
 pub mod Joining

@@ -1,39 +1,79 @@
--- The room of the flat table and of its records, as the writer asks.
+-- The loop over the survivors that writes their records: the room, as the writer asks, and one turn.
 -- Assumes nothing.
+use Rattle.std.specs.Prelude.{None}
 use Prim.Native.Nat.{◌*◌, ◌+◌, ◌<◌, ◌≤◌, ℕ}
-use lib.ListN.{length}
-use mathlib.Core.List.{List}
+use lib.ListN.{drop, length}
+use lib.Seq.{sets}
+use mathlib.Core.Bool.{false}
+use mathlib.Core.List.{List, [], ◌++◌, ◌∷◌, map}
 use mathlib.Core.Path.{◌∙◌, ◌≡◌, sym}
 use native.Mathlib.Omega.{arith}
 use Rattle.flat_table.specs.Table.{flat_length, flat_width}
 use Rattle.recipe.specs.Records.{Recipe}
+use Rattle.recipe.specs.Reading.{fault₃, fault₅}
+use Rattle.tree.specs.Faults.{fault₇}
 use Rattle.tree.specs.Tree.{tree_elements}
-use Rattle.marks.specs.Marks.{survivors}
+use Rattle.marks.specs.Marks.{is_gone, survivors}
+use Rattle.compose.specs.Composed.{Composed}
 use Rattle.composer.specs.Flat.{flat, flat_record}
-use Rattle.composer.specs.Writing.{WriterRequires, element_at}
+use Rattle.composer.specs.Surviving.{surviving}
+use Rattle.composer.specs.Writing.{element_at}
 use Rattle.composer.proofs.ByNumber.{element-in}
 use Rattle.composer.proofs.Lengths.{flat-bytes, record-bytes}
+use Rattle.composer.proofs.Surviving.{Staying, stay-here, stay-on, stay-start, survives-at, survivors-are}
+use Rattle.composer.proofs.Writing.{WriteLoop, write-end, write-on, write-room, write-start}
 
-module _ {s : Recipe} {t el pre len : List ℕ} {elems : ℕ} (W : WriterRequires s t el pre len elems) where
+-- those that are left, and what is written
+abbrev pub Flattening : Recipe → List ℕ → ℕ → List ℕ → List ℕ → List ℕ → ℕ → Type 0
+Flattening s el elems out₀ out left p = Staying el elems left × WriteLoop (flat_record s) (survivors s) out₀ out (map (element_at s) left) p
+
+module _ {s : Recipe} {t inst el : List ℕ} {insts elems : ℕ} (C : Composed s t inst el insts elems) where
+  h₃ : fault₃ s ≡ None
+  h₃ = C.targeted.planted.measured.linked.row₃
+
+  h₅ : fault₅ s ≡ None
+  h₅ = C.targeted.planted.measured.linked.row₅
+
+  h₇ : fault₇ s ≡ None
+  h₇ = C.targeted.planted.row₇
+
   two : 2 ≤ s.width
-  two = omega (arith, W.naming.wide)
+  two = omega (arith, C.targeted.planted.measured.linked.numbered.shadowed.wide)
 
-  -- the table's
-  pub flat-room : {n : ℕ} → flat_length s.width * length (survivors s) ≤ n → length (flat s) ≤ n
-  flat-room h = omega (arith, flat-bytes s two W.naming.formed W.fates.row₇ W.row₅)
+  flat-room : {n : ℕ} → flat_length s.width * length (survivors s) ≤ n → length (flat s) ≤ n
+  flat-room room = omega (arith, room, flat-bytes s two h₃ h₇ h₅)
 
-  module _ {e : ℕ} (l : e < elems) where
-    pub below : e < length (tree_elements s)
-    below = omega (arith, W.fates.count)
+  pub flat-start : (out₀ : List ℕ) → flat_length s.width * length (survivors s) ≤ length out₀ → {left : List ℕ} → left ≡ surviving el 0 elems → Flattening s el elems out₀ out₀ left 0
+  unfolding flat
+  flat-start out₀ room e = rw e (stay-start el elems, rw (survivors-are C) (write-start (flat_record s) (survivors s) out₀ (flat-room room)))
 
-    -- a record's
+  pub flat-end : {out₀ out left : List ℕ} {p : ℕ} → Flattening s el elems out₀ out left p → flat_length s.width * length (survivors s) ≤ length out₀ → left ≡ [] → out ≡ flat s ++ drop (length (flat s)) out₀
+  unfolding flat
+  flat-end g room e = write-end (rw e at g.1) (flat-room room)
+
+  module _ {out₀ out left more : List ℕ} {e p : ℕ} (g : Flattening s el elems out₀ out left p) (y : left ≡ e ∷ more) where
+    pub turn-low : e < elems
+    turn-low = (stay-here g.0 y).0
+
+    pub turn-below : e < length (tree_elements s)
+    turn-below = omega (arith, turn-low, C.count)
+
+    pub turn-alive : is_gone s (element_at s e) ≡ false
+    turn-alive = survives-at C turn-low (stay-here g.0 y).1
+
+    -- its record
     long : length (flat_record s (element_at s e)) ≡ flat_length s.width
-    long =
-        record-bytes s two W.naming.formed W.fates.row₇ W.row₅ (element_at s e) (element-in s W.fates.row₇ e below)
+    long = record-bytes s two h₃ h₇ h₅ (element_at s e) (element-in s h₇ e turn-below)
 
-    pub record-is-row : {row : ℕ} → row ≡ flat_length s.width → length (flat_record s (element_at s e)) ≡ row
-    record-is-row r = long ∙ sym r
+    here : WriteLoop (flat_record s) (survivors s) out₀ out (element_at s e ∷ map (element_at s) more) p
+    here = rw y at g.1
 
-    pub record-long : {f : ℕ} → f ≡ flat_width s.width → length (flat_record s (element_at s e)) ≡ 1 + 3 * f
+    pub turn-room : p + flat_length s.width ≤ length out
+    turn-room = omega (arith, write-room here, long)
+
+    pub turn-fields : {f : ℕ} → f ≡ flat_width s.width → p + 1 + 3 * f ≤ length out
     unfolding flat_length
-    record-long r = long ∙ rw r
+    turn-fields h = omega (arith, turn-room, h)
+
+    pub turn-on : {row : ℕ} {out' : List ℕ} → row ≡ flat_length s.width → out' ≡ sets out p (flat_record s (element_at s e)) → Flattening s el elems out₀ out' more (p + row)
+    turn-on {row} r o = (stay-on g.0 y, write-on here row (long ∙ sym r) o)

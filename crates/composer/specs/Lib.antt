@@ -1,6 +1,7 @@
--- What flattening promises: prefixes and flat records, the verdict and the output, what is printed; and what its writer is given.
+-- What flattening promises: prefixes and flat records, the verdict and the output, what is printed; the sites that its writer names, and the survivors that it goes over.
 pub mod Flat
 pub mod FlatRecords
 pub mod Verdicts
 pub mod Printed
 pub mod Writing
+pub mod Surviving

@@ -1,24 +1,27 @@
 // Flattening: a recipe's answer, and its flat table, written from the rooms that composing fills.
-// Public calls, which require nothing: flatten, exported to C by composer_c as bandrolt_flatten; flatten_and_check. For the floors above: field_width, record_width, NAME_WIDTH, count_survivors, Site, site_at, put_field, write_table.
+// Public calls, which require nothing: flatten, exported to C by composer_c as bandrolt_flatten; flatten_and_check. For the floors above: source, field_width, record_width, NAME_WIDTH, Survivors, the survivors one after the other, count_survivors, Site, put_field, write_table.
 #![tactic(auto)]
 
-ghost use Rattle.std.specs.Prelude.{◌≡◌, ◌++◌, ◌+◌, ◌*◌, ◌<◌, ◌≤◌, length, get_or, drop};
+ghost use Rattle.std.specs.Prelude.{◌≡◌, ◌++◌, ◌+◌, ◌*◌, ◌<◌, ◌≤◌, length, get_or, drop, MatchOption, [], ◌∷◌};
+ghost use Rattle.std.specs.Iterator.{YieldsFirst, item_count};
 ghost use Rattle.std.proofs.lemmas.List.Edits.{sets};
 ghost use Rattle.names.specs.Judging.{row_number};
 ghost use Rattle.flat_table.specs.Table.{flat_width, flat_length};
-ghost use Rattle.recipe.specs.Records.{recipe_at};
-ghost use Rattle.compose.specs.Composed.{Composed};
+ghost use Rattle.recipe.specs.Records.{recipe};
 ghost use Rattle.marks.specs.Marks.{survivors};
-ghost use Rattle.flat_names.specs.Rows.{Naming, Prefixed};
+ghost use Rattle.flat_names.specs.Rows.{Naming};
 ghost use Rattle.composer.specs.Flat.{flat_field, flat};
 ghost use Rattle.composer.specs.Verdicts.{recipe_of, refused, verdict, written};
 ghost use Rattle.compose.specs.Rows.{Unrefused};
-ghost use Rattle.composer.specs.Writing.{site_of, SiteInTree, SiteAt, FatesRequires, WriterRequires};
+ghost use Rattle.composer.specs.Surviving.{Rowed, surviving, survivors_left};
+ghost use Rattle.composer.specs.Writing.{row_site, numbered_site, linked_site, site_of, SiteInTree};
 
-use elements::{GONE, INSTANCE, RECORD};
+use compose::{Composition, Rooms};
+use elements::{INSTANCE, RECORD};
+use flat_names::Prefixes;
 use names::{Reason, Refusal};
+use recipe::Source;
 use shadow::cell;
-use tree::Size;
 
 // 01's name width.
 pub const NAME_WIDTH: usize = 12;
@@ -33,11 +36,78 @@ pub struct Answer {
     pub bytes: u64,
 }
 
-// An element of the tree by the number of its instance and its record; record 0 is none.
+// An element of the tree by the number of its instance and the place of its record.
 #[derive(Clone, Copy)]
 pub struct Site {
     pub inst: usize,
-    pub record: usize,
+    pub place: usize,
+}
+
+impl Site {
+    // Where the element of number e is, by its row.
+    pub fn of(el: &[u16], e: usize) -> Site
+        requires { 5 * e + 1 < length el.now }
+        ensures { (result ≡ row_site el.now e) × ((result.inst < 65536) × (result.place < 65536)) }
+    {
+        Site {
+            inst: cell(el, 5 * e, INSTANCE),
+            place: cell(el, 5 * e, RECORD),
+        }
+    }
+
+    // Where the record that cell k of the row at p names is, in an instance; nowhere where it names none.
+    pub fn linked(inst: usize, t: &[u16], p: usize, k: usize) -> Option<Site>
+        requires { p + k < length t.now }
+        ensures { result ≡ linked_site inst (get_or t.now (p + k) 0) }
+    {
+        let place = shadow::link(t, p, k)?;
+        Some(Site { inst, place })
+    }
+}
+
+// The numbers of the elements that survive, in tree order: those from `at` on, of `elems` elements.
+#[derive(Clone, Copy)]
+pub struct Survivors<'a> {
+    pub el: &'a [u16],
+    pub at: usize,
+    pub elems: usize,
+}
+
+// The first survivor of the elements from number `at` on.
+fn first_survivor(el: &[u16], at: usize, elems: usize) -> Option<usize>
+    requires { 5 * elems ≤ length el.now }
+    ensures { MatchOption result (surviving el.now at elems ≡ []) (λ e. (e < elems) × (surviving el.now at elems ≡ e ∷ surviving el.now (e + 1) elems)) }
+{
+    (at..elems).find(|&e| !elements::is_gone(el, e))
+}
+
+impl<'a> Iterator for Survivors<'a> {
+    type Item = usize;
+
+    ghost can_next = { Rowed };
+
+    ghost next_gives = { YieldsFirst survivors_left };
+
+    ghost remaining = { item_count survivors_left };
+
+    fn next(&mut self) -> Option<usize> {
+        let e = first_survivor(self.el, self.at, self.elems)?;
+        self.at = e + 1;
+        Some(e)
+    }
+}
+
+impl<'a> Survivors<'a> {
+    // Those of all elements.
+    pub fn of(c: &Composition<'a>) -> Survivors<'a>
+        ensures { Rowed result × (survivors_left result ≡ surviving c.now.elements.now 0 c.now.tree.size.elems) }
+    {
+        Survivors {
+            el: c.elements,
+            at: 0,
+            elems: c.tree.size.elems,
+        }
+    }
 }
 
 // The bytes of a field of the flat table.
@@ -57,99 +127,50 @@ pub fn record_width(w: usize) -> usize
 }
 
 // How many of the elements survive.
-pub fn count_survivors(s: &[u8], w: usize, el: &[u16], elems: usize) -> usize
-    requires { FatesRequires (recipe_at w s.now) el.now elems }
-    ensures { result ≡ length (survivors (recipe_at w s.now)) }
+pub fn count_survivors(c: &Composition) -> usize
+    ensures { result ≡ length (survivors (recipe c.now.tree.source.now)) }
 {
-    let mut e = 0usize;
-    let mut n = 0usize;
-    while e < elems {
-        if cell(el, 5 * e, GONE) == 0 {
-            n += 1;
-            e += 1;
-        } else {
-            e += 1;
-        }
-    }
-    n
-}
-
-// Where the element of number z - 1 is, by its row; nowhere where z is 0.
-pub fn site_at(el: &[u16], z: usize) -> Site
-    requires { (z < 65536) × (5 * z ≤ length el.now) }
-    ensures { SiteAt el.now z result.inst result.record × ((result.inst < 65536) × (result.record < 65536)) }
-{
-    if z == 0 {
-        return Site { inst: 0, record: 0 };
-    }
-    let i = cell(el, 5 * (z - 1), INSTANCE);
-    let m = cell(el, 5 * (z - 1), RECORD);
-    Site { inst: i, record: m }
+    Survivors::of(c).count()
 }
 
 // Where the end of the chain from the reference of the element of number e is.
-fn reference_site(el: &[u16], e: usize) -> Site
+fn reference_site(el: &[u16], e: usize) -> Option<Site>
     requires { (e < 1024) × ((5 * e + 4 < length el.now) × (5 * get_or el.now (5 * e + 4) 0 ≤ length el.now)) }
-    ensures { SiteAt el.now (get_or el.now (5 * e + 4) 0) result.inst result.record }
+    ensures { result ≡ numbered_site el.now (get_or el.now (5 * e + 4) 0) }
 {
-    let z = cell(el, 5 * e, references::REFERENCE_END);
-    site_at(el, z)
+    let z = cell(el, 5 * e, references::REFERENCE_END).checked_sub(1)?;
+    Some(Site::of(el, z))
 }
 
-// Writes the field of the flat name of the element of record m in instance i, or a blank where m is 0.
-pub fn put_field(
-    s: &[u8],
-    w: usize,
-    pre: &[u8],
-    len: &[u16],
-    i: usize,
-    m: usize,
-    out: &mut [u8],
-    at: usize,
-)
-    requires { Naming (recipe_at w s.now) × (Prefixed (recipe_at w s.now) pre.now len.now × (SiteInTree (recipe_at w s.now) i m × (at + flat_width w ≤ length out.old))) }
-    ensures { out.new ≡ sets out.old at (flat_field (recipe_at w s.now) (site_of (recipe_at w s.now) i m)) }
+// Writes the field of the flat name of the element at the site, or a blank for none.
+pub fn put_field(prefixes: &Prefixes, site: Option<Site>, out: &mut [u8], at: usize)
+    requires { let s = recipe prefixes.now.source.now in Naming s × (SiteInTree s site × (at + flat_width s.width ≤ length out.old)) }
+    ensures { let s = recipe prefixes.now.source.now in out.new ≡ sets out.old at (flat_field s (site_of s site)) }
 {
-    if m == 0 {
-        flat_names::put_zeros(out, at, field_width(w));
-        return;
+    match site {
+        None => flat_names::put_zeros(out, at, field_width(prefixes.source.width)),
+        Some(x) => prefixes.put_name(x.inst, x.place, out, at),
     }
-    flat_names::put_name(s, w, pre, len, i, m, out, at);
 }
 
 // Writes the flat table: the record of each survivor, in tree order.
-pub fn write_table(
-    s: &[u8],
-    w: usize,
-    t: &[u16],
-    el: &[u16],
-    elems: usize,
-    pre: &[u8],
-    len: &[u16],
-    out: &mut [u8],
-)
-    requires { WriterRequires (recipe_at w s.now) t.now el.now pre.now len.now elems × (flat_length w * length (survivors (recipe_at w s.now)) ≤ length out.old) }
-    ensures { out.new ≡ flat (recipe_at w s.now) ++ drop (length (flat (recipe_at w s.now))) out.old }
+pub fn write_table(c: &Composition, prefixes: &Prefixes, out: &mut [u8])
+    requires { let s = recipe c.now.tree.source.now in (recipe prefixes.now.source.now ≡ s) × (flat_length s.width * length (survivors s) ≤ length out.old) }
+    ensures { let s = recipe c.now.tree.source.now in out.new ≡ flat s ++ drop (length (flat s)) out.old }
 {
-    let f = field_width(w);
-    let row = record_width(w);
-    let mut e = 0;
+    let s = c.tree.source;
+    let f = field_width(s.width);
+    let row = record_width(s.width);
     let mut p = 0usize;
-    while e < elems {
-        if cell(el, 5 * e, GONE) == 0 {
-            let q = cell(el, 5 * e, RECORD);
-            let i = cell(el, 5 * e, INSTANCE);
-            let m = cell(t, q, shadow::PARENT);
-            let z = reference_site(el, e);
-            out[p] = s[q + 1 + w];
-            put_field(s, w, pre, len, i, q, out, p + 1);
-            put_field(s, w, pre, len, i, m, out, p + 1 + f);
-            put_field(s, w, pre, len, z.inst, z.record, out, p + 1 + f + f);
-            p += row;
-            e += 1;
-        } else {
-            e += 1;
-        }
+    for e in Survivors::of(c) {
+        let own = Site::of(c.elements, e);
+        let parent = Site::linked(own.inst, c.tree.shadow, own.place, shadow::PARENT);
+        let end = reference_site(c.elements, e);
+        out[p] = s.bytes[own.place + 1 + s.width];
+        put_field(prefixes, Some(own), out, p + 1);
+        put_field(prefixes, parent, out, p + 1 + f);
+        put_field(prefixes, end, out, p + 1 + f + f);
+        p += row;
     }
 }
 
@@ -167,38 +188,38 @@ impl From<Refusal> for Answer {
 }
 
 // The prefixes of a recipe that no row refuses, and the flat table.
-fn write_all(s: &[u8], w: usize, t: &[u16], inst: &[u16], el: &[u16], n: Size, table: &mut [u8])
-    requires { Composed (recipe_at w s.now) t.now inst.now el.now n.insts n.elems × (flat_length w * length (survivors (recipe_at w s.now)) ≤ length table.old) }
-    ensures { table.new ≡ flat (recipe_at w s.now) ++ drop (length (flat (recipe_at w s.now))) table.old }
+fn write_all(c: &Composition, table: &mut [u8])
+    requires { let s = recipe c.now.tree.source.now in flat_length s.width * length (survivors s) ≤ length table.old }
+    ensures { let s = recipe c.now.tree.source.now in table.new ≡ flat s ++ drop (length (flat s)) table.old }
 {
-    let mut pre = [0u8; flat_names::PREFIX_BYTES];
-    let mut len = [0u16; flat_names::PREFIX_ROWS];
-    flat_names::fill_prefixes(s, w, t, inst, n.insts, &mut pre, &mut len);
-    write_table(s, w, t, el, n.elems, &pre, &len, table);
+    let tree = c.tree;
+    let mut bytes = [0u8; flat_names::PREFIX_BYTES];
+    let mut lengths = [0u16; flat_names::PREFIX_ROWS];
+    let prefixes = Prefixes::fill(
+        tree.source,
+        tree.shadow,
+        tree.instances,
+        tree.size.insts,
+        &mut bytes,
+        &mut lengths,
+    );
+    write_table(c, &prefixes, table);
 }
 
 // Row 13, of a recipe that no other row refuses; where it does not apply, the flat table.
-fn flatten_composed(
-    s: &[u8],
-    w: usize,
-    t: &[u16],
-    inst: &[u16],
-    el: &[u16],
-    n: Size,
-    table: &mut [u8],
-) -> Answer
-    requires { Composed (recipe_at w s.now) t.now inst.now el.now n.insts n.elems × Unrefused (recipe_at w s.now) }
-    ensures { (result ≡ verdict (recipe_at w s.now) (length table.old)) × (table.new ≡ written (recipe_at w s.now) table.old) }
+fn flatten_composed(c: &Composition, table: &mut [u8]) -> Answer
+    requires { Unrefused (recipe c.now.tree.source.now) }
+    ensures { let s = recipe c.now.tree.source.now in (result ≡ verdict s (length table.old)) × (table.new ≡ written s table.old) }
 {
-    let count = count_survivors(s, w, el, n.elems);
-    let bytes = count * record_width(w);
+    let count = count_survivors(c);
+    let bytes = count * record_width(c.tree.source.width);
     if table.len() < bytes {
         return Answer::from(Refusal {
             reason: Reason::NoRoom,
             place: 0,
         });
     }
-    write_all(s, w, t, inst, el, n, table);
+    write_all(c, table);
     Answer {
         number: 0,
         place: 0,
@@ -207,16 +228,24 @@ fn flatten_composed(
     }
 }
 
+// The recipe of name width 12 that these bytes are.
+pub fn source(bytes: &[u8]) -> Source
+    ensures { recipe result ≡ recipe_of bytes.now }
+{
+    Source {
+        bytes,
+        width: NAME_WIDTH,
+    }
+}
+
 // 01's flattening of a recipe of name width 12: the answer, and the flat table; on a refusal the table as it was.
 pub fn flatten(recipe: &[u8], table: &mut [u8]) -> Answer
     ensures { (result ≡ verdict (recipe_of recipe.now) (length table.old)) × (table.new ≡ written (recipe_of recipe.now) table.old) }
 {
-    let mut t = [0u16; compose::SHADOW_CELLS];
-    let mut inst = [0u16; compose::INSTANCE_CELLS];
-    let mut el = [0u16; compose::ELEMENT_CELLS];
-    match compose::compose(recipe, NAME_WIDTH, &mut t, &mut inst, &mut el) {
+    let mut rooms = Rooms::new();
+    match compose::compose(&source(recipe), &mut rooms) {
         Err(refusal) => Answer::from(refusal),
-        Ok(n) => flatten_composed(recipe, NAME_WIDTH, &t, &inst, &el, n, table),
+        Ok(c) => flatten_composed(&c.with_source(&source(recipe)), table),
     }
 }
 

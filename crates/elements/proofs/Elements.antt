@@ -1,8 +1,8 @@
 -- The elements of the tree by their numbers, and the columns of their rows: a pass that writes one column keeps the others.
 -- Assumes nothing.
-use Rattle.std.specs.Prelude.{None, Option, Some, option_map, unwrap_or}
+use Rattle.std.specs.Prelude.{None, unwrap_or}
 use Prim.Native.Nat.{◌*◌, ◌+◌, ◌-◌, ◌<◌, ◌≤◌, suc, zero, ℕ}
-use borrow.Author.Tests.{eqb-false, eqb-true}
+use borrow.Author.Tests.{eqb-false, eqb-true, ne_eqb}
 use lib.Dec.{eqb}
 use lib.ListN.{get_or-map, get_or, length, length-map, length-set, set}
 use lib.Seq.{get_or-set_other, get_or-set_same}
@@ -18,6 +18,7 @@ use Rattle.recipe.specs.Definitions.{element_in, holder, main}
 use Rattle.recipe.specs.Records.{Recipe, is_element, places}
 use Rattle.recipe.proofs.Definitions.{Held, element-in, in-elements}
 use Rattle.shadow.specs.Columns.{order}
+use Rattle.shadow.specs.Shadow.{linked}
 use Rattle.shadow.proofs.Cells.{row_room as record-room}
 use Rattle.tree.specs.Faults.{fault₇, most_elements}
 use Rattle.tree.specs.Numbers.{number, run, weight}
@@ -27,14 +28,9 @@ use Rattle.tree.proofs.Instances.{elements-most}
 use Rattle.tree.proofs.Nodes.{in_tree}
 use Rattle.tree.proofs.Numbering.{number-few, number-inj, run_length, tree-numbers}
 use Rattle.targets.proofs.Resolving.{not-zero}
-use Rattle.marks.specs.Cells.{ElementsRequires}
 use Rattle.elements.specs.Columns.{ElementRows}
 use Rattle.elements.specs.Gone.{Element, Numbers}
 use Rattle.elements.specs.Listing.{Only}
-
--- what the passes over marks require is enough for those over elements
-pub known : {s : Recipe} {t inst : List ℕ} {n : ℕ} → Targeted s t inst n → ElementsRequires s t
-known T = record { aimed = T.aimed; row₇ = T.planted.row₇ }
 
 -- ---- which element has the number e
 run_at : (k w i d : ℕ) → i < w → get_or (run k w) i d ≡ k + i
@@ -93,31 +89,24 @@ module _ {s : Recipe} {el : List ℕ} (h₇ : fault₇ s ≡ None) (R : ElementR
         let H = element-held s N.0 N.1 in
         let a = place_is N.0 N.1 N.2 ∙ sym r in (rw a at H.placed, rw a at H.passes)
 
--- ---- the element that a field names, by its cell
-module _ (s : Recipe) (x : Node) (f : List ℕ) {m : ℕ} (e : m ≡ unwrap_or (element_in s x.place f) 0) where
-  pub names-none : m ≡ 0 → option_map (node x.path) (element_in s x.place f) ≡ None
-  names-none z =
-      by-option (element_in s x.place f)
-      (λ n. ap (option_map (node x.path)) n)
-      (λ k n.
-      let r = (in-elements s (holder s x.place) k (element-in s x.place f k n).2).inside in
-      absurd (not-zero s (holder s x.place) k r (sym (e ∙ ap (λ (o : Option ℕ). unwrap_or o 0) n) ∙ z)))
-
-  pub names-some : (m ≡ 0 → ⊥) → option_map (node x.path) (element_in s x.place f) ≡ Some (node x.path m)
-  names-some z =
-      by-option (element_in s x.place f)
-      (λ n. absurd (z (e ∙ ap (λ (o : Option ℕ). unwrap_or o 0) n)))
-      (λ k n. ap (option_map (node x.path)) (n ∙ ap Some (sym (e ∙ ap (λ (o : Option ℕ). unwrap_or o 0) n))))
+-- ---- the element that a field names, as `link` reads it from its cell
+pub link_is : (s : Recipe) (x : Node) (f : List ℕ) {c : ℕ} → c ≡ unwrap_or (element_in s x.place f) 0 → linked c ≡ element_in s x.place f
+link_is s x f e =
+    by-option (element_in s x.place f)
+    (λ n. rw (e, n))
+    (λ k n.
+    let r = (in-elements s (holder s x.place) k (element-in s x.place f k n).2).inside in
+    rw (e, n, ne_eqb k 0 (not-zero s (holder s x.place) k r)))
 
 -- ---- two elements of one instance, by the cells of their records
-module _ {s : Recipe} {t : List ℕ} (K : ElementsRequires s t) where
+module _ {s : Recipe} {t inst : List ℕ} {insts : ℕ} (T : Targeted s t inst insts) where
   pub element-room : (x : Node) → In x (tree_elements s) → x.place + 13 ≤ length t
-  element-room x i = record-room K.aimed.measured.linked.numbered.shadowed x.place (element-held s x i).placed
+  element-room x i = record-room T.aimed.measured.linked.numbered.shadowed x.place (element-held s x i).placed
 
   pub order-cell : (x : Node) → In x (tree_elements s) → get_or t (x.place + 1) 0 ≡ order s (definition_at s x.path) x.place
   order-cell x i =
       let h = element-held s x i in
-      K.aimed.measured.linked.numbered.orders x.place h.placed h.passes ∙ ap (λ (d : ℕ). order s d x.place) h.held
+      T.aimed.measured.linked.numbered.orders x.place h.placed h.passes ∙ ap (λ (d : ℕ). order s d x.place) h.held
 
   -- the element of number e, at q, and the one at m in the same instance
   module _ {e q : ℕ} (E : Element s e q) (m : ℕ) (j : In (node E.it.path m) (tree_elements s)) where
@@ -135,7 +124,7 @@ module _ {s : Recipe} {t : List ℕ} (K : ElementsRequires s t) where
           (omega (arith, E.num), omega (arith, E.num))
 
       pub sibling-few : e - a + c < 1024
-      sibling-few = omega (arith, sibling-number.1, number-few s K.row₇ (node E.it.path m) j)
+      sibling-few = omega (arith, sibling-number.1, number-few s T.planted.row₇ (node E.it.path m) j)
 
 -- ---- columns
 pub only_same : (k : ℕ) (a : List ℕ) → Only k a a

@@ -15,7 +15,7 @@ use Rattle.tree.specs.declared.InstancesOf.{InstancesOf}
 use Rattle.tree.specs.Steps.{StepFits, StepsTo}
 use Rattle.tree.specs.Tree.{Node, node, nodes}
 use Rattle.tree.proofs.Steps.{Follows, follow-end, follow-fits, follow-start, follow-step}
-use Rattle.marks.specs.Cells.{MarksRequires}
+use Rattle.targets.specs.Targeted.{Targeted}
 use Rattle.marks.proofs.Threads.{Along, Done, Holds, begin, finish, path, seek-end, seek-start, seek-turn, turn}
 
 pub record Following (s : Recipe) (inst : List ℕ) (p : ℕ) (W : (Node → Type 0) → Type 0) (a : InstancesOf) : Type 0 where
@@ -30,7 +30,7 @@ Seeks s inst test p f a = Following s inst p (λ D. (q : Node) → In q (nodes s
 abbrev Made : List ℕ → List ℕ → ℕ → InstancesOf → Type 0
 Made t inst p a = (a.rows.now ≡ inst) × (a.next ≡ get_or t (get_or t (p + 0) 0 + 8) 0)
 
-module _ {s : Recipe} {t inst : List ℕ} (T : MarksRequires s t inst) (p : ℕ) (here : In p (places s)) where
+module _ {s : Recipe} {t inst : List ℕ} {insts : ℕ} (T : Targeted s t inst insts) (p : ℕ) (here : In p (places s)) where
   -- what the loop requires
   pub follows-fits : {made a : InstancesOf} → Made t inst p made → a ≡ made → StepFits a
   follows-fits m e = follow-fits T.planted p here (follow-start m e)

@@ -1,32 +1,34 @@
 -- What is gone, by the cells: the owner of a replaced-by, the target of a deletion or replacement, and their children.
 -- Assumes nothing.
-use Rattle.std.specs.Prelude.{None, Some, unwrap_or}
+use Rattle.std.specs.Prelude.{None, Option, Some, option_map}
 use Prim.Native.Nat.{◌*◌, ◌+◌, ◌-◌, ◌<◌, ◌≤◌, ℕ}
 use borrow.Author.Tests.{eq-eqb, eqb-true, ne_eqb}
 use lib.Dec.{eqb}
 use lib.ListN.{get_or, length}
-use mathlib.Core.Bool.{Bool, ◌&&◌, ◌||◌, cond, false, or-false, true}
+use mathlib.Core.Bool.{Bool, ◌&&◌, ◌||◌, cond, false, not, or-false, true}
 use mathlib.Core.List.{List}
 use mathlib.Core.Logic.{inr, ⊎_elim}
 use mathlib.Core.Path.{◌∙◌, ◌≡◌, ap, refl, sym}
 use native.Mathlib.Omega.{arith}
 use Rattle.names.specs.Lists.{In, among, any}
 use Rattle.names.proofs.Lists.{any-in, any-cong, any-or, any_some, among_one, among_two}
-use Rattle.names.proofs.Tests.{and_left, and_right, both, both_ways, by_cases, not-both, or_cases, or_left}
+use Rattle.names.proofs.Tests.{and_left, and_right, both, both_ways, not-both, or_cases, or_left}
 use Rattle.recipe.specs.Definitions.{element_in}
 use Rattle.recipe.specs.Reading.{fault₅}
 use Rattle.recipe.specs.Records.{Recipe, is_deletion, is_mark, is_replaced_by, is_replacement, kind, parent_field}
+use Rattle.shadow.specs.Shadow.{linked}
 use Rattle.tree.specs.Faults.{fault₇, fault₈}
 use Rattle.tree.specs.Numbers.{number}
 use Rattle.tree.specs.Tree.{Node, node, parent_of, same_node, tree_elements}
 use Rattle.tree.proofs.Instances.{depth}
 use Rattle.tree.proofs.Nodes.{nodes-in, parent_in}
 use Rattle.tree.proofs.Numbering.{number-few}
-use Rattle.marks.specs.Cells.{AllStamped, ElementsRequires, aim_number, gone_cell, is_set, mark_cell, owner_cell, port_cell, stamps}
+use Rattle.targets.specs.Targeted.{Targeted}
+use Rattle.marks.specs.Cells.{AllStamped, aim_number, gone_cell, is_set, mark_cell, owner_cell, port_cell, stamps}
 use Rattle.elements.specs.Columns.{Gones}
 use Rattle.elements.specs.Gone.{Element, GoneAt}
 use Rattle.marks.specs.Marks.{aims_at, from, is_gone, is_marked_gone, owner, owns_by, removes, tree_marks, tree_pointers}
-use Rattle.elements.proofs.Elements.{of-element, element-held, element-room, names-none, names-some, sibling-number}
+use Rattle.elements.proofs.Elements.{of-element, element-held, element-room, link_is, sibling-number}
 use Rattle.marks.proofs.Marks.{aim-in, aim-some, is-mark, mark-pointer, owner-in, pointer-placed}
 use Rattle.marks.proofs.Pass.{stamped-any}
 use Rattle.marks.proofs.Relations.{aimed-is, node-number}
@@ -140,7 +142,7 @@ module _ (s : Recipe) (h₅ : fault₅ s ≡ None) (h₇ : fault₇ s ≡ None) 
     sets-law = ⊎_elim port-case (⊎_elim by-case mark-case) (sorts s q.place (pointer-placed s q i).passes)
 
   -- the two cells say whether an element is marked as gone
-  pub marked-law : (t : List ℕ) → AllStamped s t → (x : Node) → In x (tree_elements s)
+  pub marked-law : (t : List Bool) → AllStamped s t → (x : Node) → In x (tree_elements s)
       → is_set t (owner_cell (number s x)) || is_set t (gone_cell (number s x)) ≡ is_marked_gone s x
   unfolding is_marked_gone
   marked-law t S x j =
@@ -154,7 +156,7 @@ module _ (s : Recipe) (h₅ : fault₅ s ≡ None) (h₇ : fault₇ s ≡ None) 
       ∙ marks-any (λ r. removes s x r || owns_by s x r)
 
 -- ---- an element and its parent
-module _ {s : Recipe} {t cells : List ℕ} (K : ElementsRequires s t) (S : AllStamped s cells) {e q : ℕ} (E : Element s e q) where
+module _ {s : Recipe} {t inst : List ℕ} {insts : ℕ} {cells : List Bool} (T : Targeted s t inst insts) (S : AllStamped s cells) {e q : ℕ} (E : Element s e q) where
   abbrev x : Node
   x = E.it
 
@@ -162,13 +164,13 @@ module _ {s : Recipe} {t cells : List ℕ} (K : ElementsRequires s t) (S : AllSt
   marked n = is_set cells (owner_cell n) || is_set cells (gone_cell n)
 
   marked-is : (y : Node) → In y (tree_elements s) → marked (number s y) ≡ is_marked_gone s y
-  marked-is = marked-law s K.aimed.measured.linked.row₅ K.row₇ K.aimed.row₈ cells S
+  marked-is = marked-law s T.aimed.measured.linked.row₅ T.planted.row₇ T.aimed.row₈ cells S
 
   pub gone-low : e < 1024
-  gone-low = omega (arith, number-few s K.row₇ x E.tree, E.num)
+  gone-low = omega (arith, number-few s T.planted.row₇ x E.tree, E.num)
 
   pub gone-room : q + 13 ≤ length t
-  gone-room = omega (arith, element-room K x E.tree, E.at)
+  gone-room = omega (arith, element-room T x E.tree, E.at)
 
   -- what the code answers
   module _ {b : Bool} (h : b ≡ marked e) where
@@ -177,22 +179,22 @@ module _ {s : Recipe} {t cells : List ℕ} (K : ElementsRequires s t) (S : AllSt
 
     pub gone-own : b ≡ true → GoneAt s e true
     unfolding is_gone
-    gone-own z = of-element K.row₇ E (is_gone s) (sym (or_left (is_marked_gone s x) _ (own ∙ z)))
+    gone-own z = of-element T.planted.row₇ E (is_gone s) (sym (or_left (is_marked_gone s x) _ (own ∙ z)))
 
-    module _ {m : ℕ} (r : m ≡ get_or t (q + 3) 0) where
-      parent_is : m ≡ unwrap_or (element_in s x.place (parent_field s x.place)) 0
+    module _ {o : Option ℕ} (r : o ≡ linked (get_or t (q + 3) 0)) where
+      parent_is : o ≡ element_in s x.place (parent_field s x.place)
       parent_is =
           let i = element-held s x E.tree in
-          r ∙ ap (λ (z : ℕ). get_or t (z + 3) 0) (sym E.at) ∙ K.aimed.measured.linked.parents x.place i.placed i.passes
+          r ∙ link_is s x (parent_field s x.place) (ap (λ (z : ℕ). get_or t (z + 3) 0) (sym E.at) ∙ T.aimed.measured.linked.parents x.place i.placed i.passes)
 
-      pub gone-none : b ≡ false → m ≡ 0 → GoneAt s e false
+      pub gone-none : b ≡ false → o ≡ None → GoneAt s e false
       unfolding is_gone parent_of
-      gone-none z n = of-element K.row₇ E (is_gone s) (rw (own ∙ z, names-none s x (parent_field s x.place) parent_is n))
+      gone-none z n = of-element T.planted.row₇ E (is_gone s) (rw (own ∙ z, sym parent_is ∙ n))
 
-      module _ (n : m ≡ 0 → ⊥) where
+      module _ {m : ℕ} (n : o ≡ Some m) where
         a-parent : parent_of s x ≡ Some (node x.path m)
         unfolding parent_of
-        a-parent = names-some s x (parent_field s x.place) parent_is n
+        a-parent = ap (option_map (node x.path)) (sym parent_is ∙ n)
 
         pub parent-tree : In (node x.path m) (tree_elements s)
         parent-tree = parent_in s x (node x.path m) E.tree a-parent
@@ -200,13 +202,13 @@ module _ {s : Recipe} {t cells : List ℕ} (K : ElementsRequires s t) (S : AllSt
         module _ {a c : ℕ} (u : a ≡ get_or t (q + 1) 0) (v : c ≡ get_or t (m + 1) 0) where
           pub gone-parent : {k : Bool} → b ≡ false → k ≡ marked (e - a + c) → GoneAt s e k
           unfolding is_gone
-          gone-parent z g = of-element K.row₇ E (is_gone s) (rw (own ∙ z, a-parent) (g ∙ ap marked (sibling-number K E m parent-tree u v).1 ∙ marked-is (node x.path m) parent-tree))
+          gone-parent z g = of-element T.planted.row₇ E (is_gone s) (rw (own ∙ z, a-parent) (g ∙ ap marked (sibling-number T E m parent-tree u v).1 ∙ marked-is (node x.path m) parent-tree))
 
--- ---- what column 2 says
-pub gone-told : (s : Recipe) (el : List ℕ) {e c : ℕ} → Gones s el → c ≡ get_or el (5 * e + 2) 0 → (x : Node) → In x (tree_elements s) → number s x ≡ e
-    → ((c ≡ 0 → ⊥) → is_gone s x ≡ true) × (c ≡ 0 → is_gone s x ≡ false)
-gone-told s el {e} {c} G r x i n =
-    let q : c ≡ cond (is_gone s x) 1 0 = r ∙ ap (λ (k : ℕ). get_or el (5 * k + 2) 0) (sym n) ∙ G x i in (
-      λ z. by_cases (is_gone s x) (λ h. h) (λ h. absurd (z (q ∙ rw h))),
-      λ z. by_cases (is_gone s x) (λ h. let k : c ≡ 1 = q ∙ rw h in absurd (omega arith)) (λ h. h),
-    )
+-- ---- what column 2 says, as `is_gone` reads it
+pub gone-told : (s : Recipe) (el : List ℕ) {e : ℕ} {b : Bool} → Gones s el → b ≡ not (eqb (get_or el (5 * e + 2) 0) 0) → GoneAt s e b
+gone-told s el G r x i n =
+    r ∙ ap (λ (k : ℕ). not (eqb (get_or el (5 * k + 2) 0) 0)) (sym n) ∙ ap (λ (c : ℕ). not (eqb c 0)) (G x i) ∙ flag (is_gone s x)
+  where
+    flag : (g : Bool) → not (eqb (cond g 1 0) 0) ≡ g
+    flag true = refl
+    flag false = refl

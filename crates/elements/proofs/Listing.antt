@@ -18,10 +18,10 @@ use Rattle.shadow.specs.Columns.{order}
 use Rattle.tree.specs.Numbers.{number}
 use Rattle.tree.specs.Tree.{Node, node, nodes, tree_elements}
 use Rattle.tree.proofs.Numbering.{number-few, number-inj}
-use Rattle.marks.specs.Cells.{MarksRequires}
+use Rattle.targets.specs.Targeted.{Targeted}
 use Rattle.elements.specs.Columns.{ElementRows}
 use Rattle.elements.specs.Listing.{Entry, Listed}
-use Rattle.marks.proofs.Threads.{Done, Holds, path, this-in}
+use Rattle.marks.proofs.Threads.{Done, Holds, has-row, path, this-in}
 use Rattle.elements.proofs.Following.{Following, follow-on, follows-holds}
 use Rattle.tree.specs.declared.InstancesOf.{InstancesOf}
 use Rattle.tree.specs.Steps.{StepsTo}
@@ -78,7 +78,7 @@ module _ (s : Recipe) where
   listed-rows el l L = record { room = l; records = λ x i. (L x i tt).at; within = λ x i. (L x i tt).few; paths = λ x i. (L x i tt).path-is }
 
 -- ---- an element record in one instance
-module _ {s : Recipe} {t inst : List ℕ} (T : MarksRequires s t inst) (p : ℕ) (here : In p (places s)) (sort : is_element s p ≡ true) where
+module _ {s : Recipe} {t inst : List ℕ} {insts : ℕ} (T : Targeted s t inst insts) (p : ℕ) (here : In p (places s)) (sort : is_element s p ≡ true) where
   module _ (i : ℕ) {f o : ℕ} (h : Holds s (holder s p) i) (rf : f ≡ get_or inst (6 * i + 2) 0) (ro : o ≡ get_or t (p + 1) 0) where
     abbrev this : Node
     this = node (path s i) p
@@ -90,7 +90,7 @@ module _ {s : Recipe} {t inst : List ℕ} (T : MarksRequires s t inst) (p : ℕ)
     this-number : number s this ≡ f + o
     unfolding number node
     this-number =
-        omega (arith, T.planted.rows.start i h.0, T.planted.measured.linked.numbered.orders p here sort, ap (λ (d : ℕ). order s d p) h.1)
+        omega (arith, T.planted.rows.start i (has-row T h.0), T.planted.measured.linked.numbered.orders p here sort, ap (λ (d : ℕ). order s d p) h.1)
 
     pub this-few : f + o < 1024
     this-few = omega (arith, this-number, number-few s T.planted.row₇ this element-this)

@@ -7,18 +7,18 @@ use mathlib.Core.List.{List}
 use mathlib.Core.Path.{◌∙◌, ◌≡◌, refl, subst, sym}
 use Rattle.names.specs.Lists.{In, first}
 use Rattle.recipe.specs.declared.Records.{Records}
-use Rattle.recipe.specs.Records.{Recipe, next, places}
+use Rattle.recipe.specs.Records.{Recipe, next, places, recipe}
 use Rattle.recipe.specs.Steps.{StepsTo}
 use Rattle.recipe.proofs.Going.{Going, Here, going_end, going-hit, going_on, going_start, here}
 use Rattle.recipe.proofs.Steps.{Over, over-end, over-start, over-step}
 use Rattle.shadow.proofs.Cells.{step-next}
 use Rattle.tree.specs.Tree.{Node, nodes}
-use Rattle.marks.specs.Cells.{MarksRequires}
+use Rattle.targets.specs.Targeted.{Targeted}
 use Rattle.marks.proofs.Threads.{along-all, along-skip}
 
 -- what `Records::of` gives
 abbrev Made : Recipe → Records → Type 0
-Made s a = (a.bytes.now ≡ s.bytes) × ((a.width ≡ s.width) × (a.at ≡ 0))
+Made s a = (recipe a.source.now ≡ s) × (a.at ≡ 0)
 
 -- ---- a search: no record before the next one passes the test
 pub record Seeking (s : Recipe) (test : ℕ → Bool) (a : Records) : Type 0 where
@@ -31,7 +31,7 @@ seeking-start {s} {test} m e = let o = over-start s m e in record { over = o.0; 
 pub seeking-end : {s : Recipe} {test : ℕ → Bool} {a b : Records} → Seeking s test a → StepsTo a None b → first test (places s) ≡ None
 seeking-end g e = going_end g.going (over-end g.over e)
 
-module _ {s : Recipe} {t inst : List ℕ} (T : MarksRequires s t inst) {a b : Records} {p : ℕ} where
+module _ {s : Recipe} {t inst : List ℕ} {insts : ℕ} (T : Targeted s t inst insts) {a b : Records} {p : ℕ} where
   module _ {test : ℕ → Bool} (g : Seeking s test a) (e : StepsTo a (Some p) b) where
     seeking-here : Here s test p
     seeking-here = let z = over-step g.over e in here s test p T.planted.measured.linked.numbered.shadowed.whole (rw z.place at g.going) z.inside
@@ -54,7 +54,7 @@ pub passing-start : {s : Recipe} {W : (Node → Type 0) → Type 0} {made a : Re
 passing-start {s} {W} m e w =
     record { seeking = seeking-start m e; said = subst (λ (k : ℕ). W (λ q. q.place < k)) (sym (over-start s m e).1) w }
 
-module _ {s : Recipe} {t inst : List ℕ} (T : MarksRequires s t inst) {W : (Node → Type 0) → Type 0} {a b : Records} {p : ℕ} (g : Passing s W a) (e : StepsTo a (Some p) b) where
+module _ {s : Recipe} {t inst : List ℕ} {insts : ℕ} (T : Targeted s t inst insts) {W : (Node → Type 0) → Type 0} {a b : Records} {p : ℕ} (g : Passing s W a) (e : StepsTo a (Some p) b) where
   pub passing-place : In p (places s)
   passing-place = seeking-place T g.seeking e
 

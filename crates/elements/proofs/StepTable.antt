@@ -23,7 +23,8 @@ use Rattle.tree.specs.Numbers.{number}
 use Rattle.tree.specs.Tree.{Node, node, nodes, tree_elements}
 use Rattle.tree.proofs.Nodes.{node-same, nodes-in, same-node}
 use Rattle.tree.proofs.Numbering.{number-inj}
-use Rattle.marks.specs.Cells.{MarksRequires, aim_number}
+use Rattle.targets.specs.Targeted.{Targeted}
+use Rattle.marks.specs.Cells.{aim_number}
 use Rattle.elements.specs.Columns.{Nexts}
 use Rattle.marks.specs.Faults.{fault₉}
 use Rattle.elements.specs.Listing.{Only}
@@ -172,7 +173,7 @@ module _ (s : Recipe) (h₄ : fault₄ s ≡ None) (h₅ : fault₅ s ≡ None) 
       ∙ w.has r f.0 (rep_step r k) tt ∙ to-rep r (not-by r k) ∙ rw (z, step_of))
 
 -- ---- one record, in the instances of its definition
-module _ {s : Recipe} {t inst : List ℕ} (T : MarksRequires s t inst) (h₉ : fault₉ s ≡ None) (p : ℕ) (here : In p (places s)) (st : is_owned s p ≡ true) where
+module _ {s : Recipe} {t inst : List ℕ} {insts : ℕ} (T : Targeted s t inst insts) (h₉ : fault₉ s ≡ None) (p : ℕ) (here : In p (places s)) (st : is_owned s p ≡ true) where
   is-step-mark : is_mark s p ≡ true
   is-step-mark = ⊎_elim (replacement-mark s p) (replaced-by-mark s p) (or_cases (is_replacement s p) (is_replaced_by s p) st)
 

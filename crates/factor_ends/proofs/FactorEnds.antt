@@ -18,6 +18,7 @@ use Rattle.marks.proofs.Chain.{chain-in}
 use Rattle.elements.proofs.Elements.{element-held, element-room, order-cell}
 use Rattle.references.specs.Ends.{Stepping, followed}
 use Rattle.references.proofs.Ends.{end-law, stepping}
+use Rattle.targets.specs.Targeted.{Targeted}
 use Rattle.factor_ends.specs.FactorEnds.{ChainsRequires, Factor, FactorAt, FactorEnd, end_from}
 
 module _ {s : Recipe} {f q : ℕ} {path : List ℕ} {o : Option ℕ} (F : Factor s f q path o) where
@@ -37,7 +38,7 @@ module _ {s : Recipe} {f q : ℕ} {path : List ℕ} {o : Option ℕ} (F : Factor
   factor-tree : (q ≡ 0 → ⊥) → In (node path q) (tree_elements s)
   factor-tree z = F.tree q (factor-some z)
 
-module _ {s : Recipe} {t el : List ℕ} (C : ChainsRequires s t el) {f q : ℕ} where
+module _ {s : Recipe} {t inst el : List ℕ} {insts : ℕ} (T : Targeted s t inst insts) (C : ChainsRequires s el) {f q : ℕ} where
   pub no_end : q ≡ 0 → FactorEnd s f q 0
   unfolding end_from
   no_end z path o F = rw (factor-none F z, end_from)
@@ -45,27 +46,27 @@ module _ {s : Recipe} {t el : List ℕ} (C : ChainsRequires s t el) {f q : ℕ} 
   module _ (n : q ≡ 0 → ⊥) where
     pub factor-room : FactorAt s f q → q + 13 ≤ length t
     unfolding node
-    factor-room A = element-room C.elements (node A.path q) (factor-tree A.is n)
+    factor-room A = element-room T (node A.path q) (factor-tree A.is n)
 
     module _ {c : ℕ} (r : c ≡ get_or t (q + 1) 0) where
       factor-number : {path : List ℕ} {o : Option ℕ} → Factor s f q path o → f + c ≡ number s (node path q)
       unfolding number node
-      factor-number {path} F = let y = order-cell C.elements (node path q) (factor-tree F n) in omega (arith, F.first)
+      factor-number {path} F = let y = order-cell T (node path q) (factor-tree F n) in omega (arith, F.first)
 
       -- what `chain_end` requires
       pub factor-steps : FactorAt s f q → Stepping el (f + c)
       factor-steps A =
           rw (factor-number A.is)
-          (stepping s C.elements.aimed.measured.linked.row₅ C.elements.row₇ el C.nexts (node A.path q) (factor-tree A.is n) C.rows.room)
+          (stepping s T.aimed.measured.linked.row₅ T.planted.row₇ el C.nexts (node A.path q) (factor-tree A.is n) C.rows.room)
 
       pub factor-few : FactorAt s f q → f + c < 1024
-      factor-few A = omega (arith, factor-number A.is, number-few s C.elements.row₇ (node A.path q) (factor-tree A.is n))
+      factor-few A = omega (arith, factor-number A.is, number-few s T.planted.row₇ (node A.path q) (factor-tree A.is n))
 
       module _ {z : ℕ} (e : z ≡ followed el 5 (f + c)) where
         end_is : {path : List ℕ} {o : Option ℕ} → Factor s f q path o → z ≡ number s (chain_end s (node path q))
         end_is {path} F =
             e ∙ ap (followed el 5) (factor-number F)
-            ∙ end-law s C.elements.aimed.measured.linked.row₅ C.elements.row₇ el C.nexts (node path q) (factor-tree F n)
+            ∙ end-law s T.aimed.measured.linked.row₅ T.planted.row₇ el C.nexts (node path q) (factor-tree F n)
 
         pub factor-end-few : FactorAt s f q → z < 1024
         unfolding chain_end
@@ -74,7 +75,7 @@ module _ {s : Recipe} {t el : List ℕ} (C : ChainsRequires s t el) {f q : ℕ} 
             omega (
               arith,
               end_is A.is,
-              number-few s C.elements.row₇ (chain_end s y) (chain-in s C.elements.aimed.measured.linked.row₅ C.elements.row₇ 5 y (factor-tree A.is n)),
+              number-few s T.planted.row₇ (chain_end s y) (chain-in s T.aimed.measured.linked.row₅ T.planted.row₇ 5 y (factor-tree A.is n)),
             )
 
         pub an-end : FactorEnd s f q (z + 1)

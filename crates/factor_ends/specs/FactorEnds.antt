@@ -5,7 +5,6 @@ use Rattle.names.specs.Lists.{In}
 use Rattle.recipe.specs.Records.{Recipe}
 use Rattle.tree.specs.Numbers.{first_at, number}
 use Rattle.tree.specs.Tree.{instances, node, tree_elements}
-use Rattle.marks.specs.Cells.{ElementsRequires, MarksRequires}
 use Rattle.marks.specs.Marks.{chain_end}
 use Rattle.elements.specs.Columns.{ElementRows, Gones, Nexts}
 
@@ -15,8 +14,7 @@ end_from s path None = 0
 end_from s path (Some e) = number s (chain_end s (node path e)) + 1
 
 -- what it takes to follow a chain: the columns 0, 1 and 3 of the elements
-pub record ChainsRequires (s : Recipe) (t el : List ℕ) : Type 0 where
-  pub elements : ElementsRequires s t
+pub record ChainsRequires (s : Recipe) (el : List ℕ) : Type 0 where
   pub rows : ElementRows s el
   pub nexts : Nexts s el
 
@@ -37,8 +35,7 @@ pub record FactorAt (s : Recipe) (f q : ℕ) : Type 0 where
 abbrev pub FactorEnd : Recipe → ℕ → ℕ → ℕ → Type 0
 FactorEnd s f q z = (path : List ℕ) (o : Option ℕ) → Factor s f q path o → z ≡ end_from s path o
 
--- what row 20 takes: the shadow, the instances, the elements and their columns 0 to 3
-pub record FactorsRequires (s : Recipe) (t inst el : List ℕ) : Type 0 where
-  pub targeted : MarksRequires s t inst
-  pub chains : ChainsRequires s t el
+-- what row 20 takes: the columns 0 to 3
+pub record FactorsRequires (s : Recipe) (el : List ℕ) : Type 0 where
+  pub chains : ChainsRequires s el
   pub gones : Gones s el

@@ -3,25 +3,24 @@
 #![tactic(auto)]
 
 ghost use Rattle.std.specs.Prelude.{◌≡◌, length};
-ghost use Rattle.recipe.specs.Records.{recipe_at};
+ghost use Rattle.recipe.specs.Records.{recipe};
 ghost use Rattle.recipe.specs.Reading.{fault₁₉};
 ghost use Rattle.shadow.specs.Columns.{Linked, Paired, Unpaired};
 
-use recipe::Records;
-use shadow::{FACTORS, SUBMODEL, cell, set_cell};
+use recipe::{Kind, Records, Source};
+use shadow::{FACTORS, SUBMODEL, link, set_cell};
 
 // A second kind 8 is seen at its submodel, so that one look at each record is enough.
-pub fn pair_factors(s: &[u8], w: usize, t: &mut [u16]) -> Option<usize>
-    requires { Linked (recipe_at w s.now) t.old × Unpaired (recipe_at w s.now) t.old }
-    ensures { (result ≡ fault₁₉ (recipe_at w s.now)) × ((result ≡ None → Linked (recipe_at w s.now) t.new × Paired (recipe_at w s.now) t.new) × (length t.new ≡ length t.old)) }
+pub fn pair_factors(s: &Source, t: &mut [u16]) -> Option<usize>
+    requires { Linked (recipe s.now) t.old × Unpaired (recipe s.now) t.old }
+    ensures { (result ≡ fault₁₉ (recipe s.now)) × ((result ≡ None → Linked (recipe s.now) t.new × Paired (recipe s.now) t.new) × (length t.new ≡ length t.old)) }
 {
-    for p in Records::of(s, w) {
-        if s[p] == 8 {
-            let m = cell(t, p, SUBMODEL);
-            if m == 0 {
+    for p in Records::of(s) {
+        if s.bytes[p] == Kind::Factors as u8 {
+            let Some(m) = link(t, p, SUBMODEL) else {
                 return Some(p);
-            }
-            if cell(t, m, FACTORS) != 0 {
+            };
+            if link(t, m, FACTORS).is_some() {
                 return Some(p);
             }
             set_cell(t, m, FACTORS, p);

@@ -1,18 +1,17 @@
 -- The entries of the companion: which elements have one, the bytes of each, and how they are written.
 -- Assumes nothing.
-use Rattle.std.specs.Prelude.{None, Option, Some}
+use Rattle.std.specs.Prelude.{IfSome, None, Option, Some}
 use mathlib.Core.Path.{◌≡◌, refl, sym, ap, ◌∙◌}
 use Prim.Native.Nat.{ℕ, ◌+◌, ◌*◌, ◌≤◌, ◌<◌}
 use native.Mathlib.Omega.{arith}
-use native.Mathlib.Nat.{add-zero}
 use native.Mathlib.Numerals.{add-one}
-use mathlib.Core.Bool.{false, not, ◌||◌}
-use mathlib.Core.List.{List, [], ◌++◌, map, append-nil}
+use mathlib.Core.Bool.{false, not, true, ◌||◌}
+use mathlib.Core.List.{List, [], ◌++◌, ◌∷◌, map, append-nil}
 use lib.Dec.{eqb}
-use lib.ListN.{length, get_or, set, take, drop, length-append}
+use lib.ListN.{length, get_or, set, take, drop, length-append, length-map}
 use lib.Seq.{sets, sets-eq, length-sets, take_at}
 use Rattle.names.specs.Lists.{In, joined, keep, padded}
-use Rattle.names.proofs.Lists.{in-keep, joined_length, keep-keep}
+use Rattle.names.proofs.Lists.{in-keep, joined_length, keep-length, keep-off, keep-on}
 use Rattle.names.proofs.Stores.{sets-append}
 use Rattle.flat_table.specs.Table.{flat_width}
 use Rattle.recipe.specs.Reading.{fault₃, fault₅}
@@ -25,52 +24,78 @@ use Rattle.tree.proofs.Numbering.{joined-append, map-append, run-append}
 use Rattle.marks.specs.Marks.{is_gone, survivors}
 use Rattle.marks.proofs.Survivors.{survivor}
 use Rattle.flat_names.specs.Prefixes.{flat_name}
+use Rattle.flat_names.specs.Rows.{Naming}
+use Rattle.flat_names.proofs.Filling.{naming}
 use Rattle.flat_names.proofs.Puts.{rows-below}
+use Rattle.compose.specs.Composed.{Composed}
 use Rattle.composer.specs.Flat.{flat_field}
-use Rattle.composer.specs.Writing.{SiteInTree, element_at, site_of}
-use Rattle.composer.proofs.ByNumber.{element-in, instance-low, path-is, site-is}
+use Rattle.elements.proofs.Elements.{elements-few}
+use Rattle.composer.specs.declared.Site.{Site}
+use Rattle.composer.specs.Surviving.{surviving}
+use Rattle.composer.specs.Writing.{SiteInTree, element_at, row_site, site_of}
+use Rattle.composer.proofs.ByNumber.{element-in, instance-low, path-is, row_room, site-is}
 use Rattle.composer.proofs.Fields.{class-inside, class-is}
 use Rattle.composer.proofs.Lengths.{field-bytes, name-field}
-use Rattle.composer.proofs.Writing.{fate-room, fates-few, gone_at, survives-at}
+use Rattle.composer.proofs.Surviving.{Staying, keep-map, stay-here, stay-on, stay-start, survivors-are}
+use Rattle.composer.proofs.Writing.{WriteLoop, write-end, write-on, write-room, write-start}
 use Rattle.factors.specs.Companion.{companion, companion_record, entry_length, factor_at, factor_fields, is_rated, rated}
-use Rattle.factors.specs.Sites.{CompanionRequires, EntryRequires, RowFor, RowRequires, SiteIs, factor_field, fields_to, is_entry}
-use Rattle.factors.proofs.Paths.{factor-in, field_in}
+use Rattle.factors.specs.Sites.{RowFor, RowRequires, SiteIs, Sited, factor_field, fields_to, stored_site}
+use Rattle.factors.proofs.Paths.{factor-in}
 use Rattle.factors.proofs.Sites.{site-in}
 
 -- ---- who has an entry
-pub rated-are : (s : Recipe) → keep (is_entry s) (tree_elements s) ≡ rated s
-unfolding is_entry rated survivors
-rated-are s = sym (keep-keep (is_rated s) (λ x. not (is_gone s x)) (tree_elements s))
+abbrev pub entries_left : Recipe → List ℕ → List Node
+entries_left s left = keep (is_rated s) (map (element_at s) left)
+
+module _ (s : Recipe) {left more : List ℕ} {e : ℕ} (y : left ≡ e ∷ more) where
+  entries-on : is_rated s (element_at s e) ≡ true → entries_left s left ≡ element_at s e ∷ entries_left s more
+  entries-on k = rw y (keep-on (is_rated s) (element_at s e) (map (element_at s) more) k)
+
+  entries-off : is_rated s (element_at s e) ≡ false → entries_left s left ≡ entries_left s more
+  entries-off k = rw y (keep-off (is_rated s) (element_at s e) (map (element_at s) more) k)
 
 pub rated-tree : (s : Recipe) (x : Node) → In x (rated s) → In x (survivors s)
 unfolding rated
 rated-tree s x i = (in-keep (is_rated s) (survivors s) x i).0
 
-module _ {s : Recipe} {el : List ℕ} (R : EntryRequires s el) {e : ℕ} (l : e < length (tree_elements s)) where
-  pub entry_row : 5 * e + 5 ≤ length el
-  entry_row = fate-room R.fates l
+pub rated-few : (s : Recipe) → fault₇ s ≡ None → length (rated s) ≤ 1024
+unfolding rated survivors
+rated-few s h₇ = omega (arith, keep-length (is_rated s) (survivors s), keep-length (λ x. not (is_gone s x)) (tree_elements s), elements-few s h₇)
 
-  pub entry-few : e < 1024
-  entry-few = omega (arith, fates-few R.fates)
+module _ {s : Recipe} {t inst el : List ℕ} {insts elems : ℕ} (C : Composed s t inst el insts elems) where
+  h₅ : fault₅ s ≡ None
+  h₅ = C.targeted.planted.measured.linked.row₅
 
-  pub gone-entry : {r : ℕ} → r ≡ get_or el (5 * e + 2) 0 → (r ≡ 0 → ⊥) → false ≡ is_entry s (element_at s e)
-  unfolding is_entry
-  gone-entry h z = rw (gone_at R.fates l h z)
+  h₇ : fault₇ s ≡ None
+  h₇ = C.targeted.planted.row₇
 
-  module _ {q : ℕ} (q-is : q ≡ get_or el (5 * e + 0) 0) where
-    pub class-room : q + 1 + s.width < length s.bytes
-    class-room = class-inside R.fates.row₇ R.elements e l q-is
+  module _ {e : ℕ} (l : e < length (tree_elements s)) where
+    pub entry_row : 5 * e + 5 ≤ length el
+    entry_row = row_room h₇ C.elements e l
 
-    pub rated-entry : {r : ℕ} → r ≡ get_or el (5 * e + 2) 0 → r ≡ 0 → (eqb (get_or s.bytes (q + 1 + s.width) 0) 4 || eqb (get_or s.bytes (q + 1 + s.width) 0) 6) ≡ is_entry s (element_at s e)
-    unfolding is_entry is_rated
-    rated-entry h z = rw (survives-at R.fates l h z, class-is R.fates.row₇ R.elements e l q-is)
+    module _ {y : Site} (r : y ≡ row_site el e) where
+      place-is : y.place ≡ get_or el (5 * e + 0) 0
+      place-is = ap (λ (z : Site). z.place) r
+
+      pub class-room : y.place + 1 + s.width < length s.bytes
+      class-room = class-inside h₇ C.elements e l place-is
+
+      pub rated-entry : (eqb (get_or s.bytes (y.place + 1 + s.width) 0) 4 || eqb (get_or s.bytes (y.place + 1 + s.width) 0) 6) ≡ is_rated s (element_at s e)
+      unfolding is_rated
+      rated-entry = rw (class-is h₇ C.elements e l place-is)
+
+  -- ---- of the survivors that are left, those with an entry
+  entries-are : {left : List ℕ} → left ≡ surviving el 0 elems → entries_left s left ≡ rated s
+  unfolding rated
+  entries-are e = rw e (ap (keep (is_rated s)) (survivors-are C))
+
+  pub entries-counted : {left : List ℕ} → left ≡ surviving el 0 elems → length (keep (λ e. is_rated s (element_at s e)) left) ≡ length (rated s)
+  entries-counted {left} e =
+      sym (length-map (keep (λ e. is_rated s (element_at s e)) left) (element_at s)) ∙ ap length (sym (keep-map (element_at s) (is_rated s) left) ∙ entries-are e)
 
 -- ---- its bytes
 module _ (s : Recipe) (two : 2 ≤ s.width) (h₃ : fault₃ s ≡ None) (h₅ : fault₅ s ≡ None) (h₇ : fault₇ s ≡ None) where
   module _ (p : List ℕ) (i : In p (instances s)) where
-    pub field-long : (j : ℕ) → length (flat_field s (factor_field s p j)) ≡ flat_width s.width
-    field-long j = field-bytes s two h₃ h₇ (factor_field s p j) (λ y n. field_in s h₅ h₇ p i j y n)
-
     fields-length : (field : Recipe → ℕ → List ℕ) → length (factor_fields s field p) ≡ most_depth * flat_width s.width
     unfolding factor_fields most_depth
     fields-length field =
@@ -104,57 +129,52 @@ module _ (s : Recipe) (p : List ℕ) where
       ∙ ap (λ (k : ℕ). joined (map f (run 0 j)) ++ joined (map f (run k 1))) (let e : 0 + j ≡ j = omega arith in e)
       ∙ ap (λ (l : List ℕ). joined (map f (run 0 j)) ++ l) (append-nil (f j))
 
--- j fields of instance i are written, and the next begins at `at`
-pub record FieldsLoop (s : Recipe) (i : ℕ) (row₀ row : List ℕ) (j at : ℕ) : Type 0 where
+-- j fields of instance i are written
+pub record FieldsLoop (s : Recipe) (i : ℕ) (row₀ row : List ℕ) (j : ℕ) : Type 0 where
   pub low : j ≤ 8
   pub long : length row ≡ length row₀
-  pub place : at ≡ j * flat_width s.width
-  pub bytes : length (fields_to s (get_or (instances s) i []) j) ≡ at
+  pub bytes : length (fields_to s (get_or (instances s) i []) j) ≡ j * flat_width s.width
   pub is : row ≡ sets row₀ 0 (fields_to s (get_or (instances s) i []) j)
 
-pub fields-start : (s : Recipe) (i : ℕ) (row : List ℕ) → FieldsLoop s i row row 0 0
-fields-start s i row = record { low = omega arith; long = refl; place = omega arith; bytes = refl; is = refl }
-
-module _ {s : Recipe} {pre len sites row₀ : List ℕ} {i : ℕ} (R : RowRequires s pre len sites row₀ i) where
+module _ {s : Recipe} {sites row₀ : List ℕ} {i : ℕ} (R : RowRequires s sites row₀ i) where
   pub narrow-field : flat_width s.width ≤ 328
   unfolding flat_width
   narrow-field = omega (arith, R.naming.narrow)
 
-  module _ {row : List ℕ} {j at : ℕ} (g : FieldsLoop s i row₀ row j at) where
+  module _ {row : List ℕ} {j : ℕ} (g : FieldsLoop s i row₀ row j) where
     module _ (l : j < 8) where
-      pub fields_fit : at + flat_width s.width ≤ 2624
-      fields_fit = omega (arith, g.place, narrow-field, rows-below j 8 (flat_width s.width) l)
+      module _ {f : ℕ} (f-is : f ≡ flat_width s.width) where
+        pub fields_fit : j * f + f ≤ 2624
+        fields_fit = rw f-is (omega (arith, narrow-field, rows-below j 8 (flat_width s.width) l))
 
-      pub fields-room : at + flat_width s.width ≤ length row
-      fields-room = omega (arith, fields_fit, g.long, R.room)
+        pub fields-room : j * f + flat_width s.width ≤ length row
+        fields-room = omega (arith, fields_fit, f-is, g.long, R.room)
 
-      pub site-row : 16 * i + 2 * j + 1 < length sites
-      site-row = omega (arith, R.sited.room, R.low)
+      module _ {x : Option Site} (x-is : x ≡ stored_site sites (16 * i + 2 * j)) where
+        here : SiteIs s (factor_field s (get_or (instances s) i []) j) x
+        here = rw x-is (R.sited.are i j R.low l)
 
-      module _ {u m : ℕ} (u-is : u ≡ get_or sites (16 * i + 2 * j + 0) 0) (m-is : m ≡ get_or sites (16 * i + 2 * j + 1) 0) where
-        here : SiteIs s (factor_field s (get_or (instances s) i []) j) u m
-        here = rw (u-is, m-is, add-zero (16 * i + 2 * j)) (R.sited.are i j R.low l)
-
-        pub here-tree : SiteInTree s u m
+        pub here-tree : SiteInTree s x
         here-tree = here.inside
 
-        pub fields-turn : {f : ℕ} → f ≡ flat_width s.width → {row' : List ℕ} → row' ≡ sets row at (flat_field s (site_of s u m)) → FieldsLoop s i row₀ row' (j + 1) (at + f)
+        pub fields-turn : {f : ℕ} → f ≡ flat_width s.width → {row' : List ℕ} → row' ≡ sets row (j * f) (flat_field s (site_of s x)) → FieldsLoop s i row₀ row' (j + 1)
         fields-turn {f} f-is {row'} e =
             let past = fields_to s (get_or (instances s) i []) j in
             let F = flat_field s (factor_field s (get_or (instances s) i []) j) in
             let long : length F ≡ flat_width s.width =
-            field-bytes s (omega (arith, R.naming.wide)) R.naming.formed R.naming.small (factor_field s (get_or (instances s) i []) j) (site-in here) in
+            field-bytes s (omega (arith, R.naming.wide)) R.naming.formed R.naming.small (factor_field s (get_or (instances s) i []) j) (site-in x here) in
             let more : fields_to s (get_or (instances s) i []) (j + 1) ≡ past ++ F = one_field s (get_or (instances s) i []) j in
-            let at-is : at ≡ 0 + length past = omega (arith, g.bytes) in
+            let size : length (fields_to s (get_or (instances s) i []) (j + 1)) ≡ j * flat_width s.width + flat_width s.width =
+            omega (arith, ap length more, length-append past F, g.bytes, long) in
+            let at-is : j * f ≡ 0 + length past = rw f-is (omega (arith, g.bytes)) in
             record {
               low = omega arith;
-              long = ap length e ∙ length-sets row at (flat_field s (site_of s u m)) ∙ g.long;
-              place = rw (add-one j, f-is, g.place) (omega arith);
-              bytes = omega (arith, ap length more, length-append past F, g.bytes, f-is);
+              long = ap length e ∙ length-sets row (j * f) (flat_field s (site_of s x)) ∙ g.long;
+              bytes = size ∙ rw (add-one j) (omega arith);
               is =
                   e
-                  ∙ ap (λ (o : Option Node). sets row at (flat_field s o)) here.is
-                  ∙ ap (λ (y : List ℕ). sets y at F) g.is
+                  ∙ ap (λ (o : Option Node). sets row (j * f) (flat_field s o)) here.is
+                  ∙ ap (λ (y : List ℕ). sets y (j * f) F) g.is
                   ∙ ap (λ (k : ℕ). sets (sets row₀ 0 past) k F) at-is
                   ∙ sym (sets-append past row₀ 0 F)
                   ∙ ap (sets row₀ 0) (sym more);
@@ -165,66 +185,118 @@ module _ {s : Recipe} {pre len sites row₀ : List ℕ} {i : ℕ} (R : RowRequir
         let e : j ≡ 8 = omega (arith, g.low) in
         let past = fields_to s (get_or (instances s) i []) 8 in
         let is : row ≡ sets row₀ 0 past = rw e at g.is in
-        let size : at ≡ 8 * flat_width s.width = rw e at g.place in
-        let long : length past ≡ 8 * flat_width s.width = (rw e at g.bytes) ∙ size in
+        let long : length past ≡ 8 * flat_width s.width = rw e at g.bytes in
         ap (take (8 * flat_width s.width)) (is ∙ sets-eq past row₀ 0 (omega (arith, R.room, narrow-field))) ∙ take_at past (drop (0 + length past) row₀) (8 * flat_width s.width) long
 
+-- ---- the survivors that are left, and what is written
+abbrev pub Entering : Recipe → List ℕ → ℕ → List ℕ → List ℕ → List ℕ → ℕ → Type 0
+Entering s el elems out₀ out left p = Staying el elems left × WriteLoop (companion_record s) (rated s) out₀ out (entries_left s left) p
+
 -- ---- the entry of the element of number e
-module _ {s : Recipe} {el pre len sites : List ℕ} {elems : ℕ} (R : CompanionRequires s el pre len sites elems) where
+module _ {s : Recipe} {t inst el : List ℕ} {insts elems : ℕ} (C : Composed s t inst el insts elems) where
+  names : Naming s
+  names = naming C.targeted.planted
+
   two : 2 ≤ s.width
-  two = omega (arith, R.entries.naming.wide)
+  two = omega (arith, names.wide)
 
-  h₇ : fault₇ s ≡ None
-  h₇ = R.entries.naming.small
-
-  pub companion-room : {n : ℕ} → entry_length s.width * length (rated s) ≤ n → length (joined (map (companion_record s) (keep (is_entry s) (tree_elements s)))) ≤ n
-  unfolding companion
-  companion-room h = rw (rated-are s) (omega (arith, companion-bytes s two R.entries.naming.formed R.entries.row₅ h₇))
+  companion-room : {n : ℕ} → entry_length s.width * length (rated s) ≤ n → length (companion s) ≤ n
+  companion-room h = omega (arith, h, companion-bytes s two names.formed (h₅ C) (h₇ C))
 
   pub narrow-entry : {f : ℕ} → f ≡ flat_width s.width → f ≤ 328
   unfolding flat_width
-  narrow-entry e = omega (arith, e, R.entries.naming.narrow)
+  narrow-entry e = omega (arith, e, names.narrow)
 
   module _ {e : ℕ} (l : e < elems) where
     pub below : e < length (tree_elements s)
-    below = omega (arith, R.count)
+    below = omega (arith, C.count)
 
     x-tree : In (element_at s e) (tree_elements s)
-    x-tree = element-in s h₇ e below
+    x-tree = element-in s (h₇ C) e below
 
-    pub entry-is : {n : ℕ} → n ≡ entry_length s.width → length (companion_record s (element_at s e)) ≡ n
-    entry-is r = entry-bytes s two R.entries.naming.formed R.entries.row₅ h₇ (element_at s e) x-tree ∙ sym r
+    entry-is : {n : ℕ} → n ≡ entry_length s.width → length (companion_record s (element_at s e)) ≡ n
+    entry-is r = entry-bytes s two names.formed (h₅ C) (h₇ C) (element_at s e) x-tree ∙ sym r
 
-    pub entry-long : {f : ℕ} → f ≡ flat_width s.width → length (companion_record s (element_at s e)) ≡ 1 + 9 * f
+    entry-long : {f : ℕ} → f ≡ flat_width s.width → length (companion_record s (element_at s e)) ≡ 1 + 9 * f
     unfolding entry_length most_depth
     entry-long r = entry-is refl ∙ rw r
 
-    module _ {i : ℕ} (i-is : i ≡ get_or el (5 * e + 1) 0) where
-      pub instance-is : i < length (instances s)
-      instance-is = instance-low h₇ R.entries.elements e below i-is
+    -- its site
+    module _ {y : Site} (r : y ≡ row_site el e) where
+      i-is : y.inst ≡ get_or el (5 * e + 1) 0
+      i-is = ap (λ (z : Site). z.inst) r
 
-      pub row-requires : {row : List ℕ} → 2624 ≤ length row → RowRequires s pre len sites row i
-      row-requires h = record { naming = R.entries.naming; prefixes = R.prefixes; sited = R.sited; low = instance-is; room = h }
+      q-is : y.place ≡ get_or el (5 * e + 0) 0
+      q-is = ap (λ (z : Site). z.place) r
 
-      module _ {q : ℕ} (q-is : q ≡ get_or el (5 * e + 0) 0) where
-        pub entry-tree : In (node (get_or (instances s) i []) q) (tree_elements s)
-        entry-tree = rw (site-is h₇ R.entries.elements e below i-is q-is) x-tree
+      instance-is : y.inst < length (instances s)
+      instance-is = instance-low (h₇ C) C.elements e below i-is
 
-        pub entry-written : (out : List ℕ) (at : ℕ) {f : ℕ} (row : List ℕ) {out₁ out₂ : List ℕ} → f ≡ flat_width s.width → RowFor s i row
-            → out₁ ≡ sets (set out at 8) (at + 1) (padded (flat_width s.width) (flat_name s (node (get_or (instances s) i []) q)))
-            → out₂ ≡ sets out₁ (at + 1 + f) (take (8 * f) (drop 0 row)) → out₂ ≡ sets out at (companion_record s (element_at s e))
-        unfolding companion_record flat_field
-        entry-written out at {f} row {out₁} {out₂} f-is g o₁ o₂ =
-            let x = element_at s e in
-            let A = flat_field s (Some x) in
-            let B = factor_fields s time_field x.path ++ factor_fields s extent_field x.path in
-            let long : length A ≡ f = name-field s two R.entries.naming.formed h₇ R.entries.row₅ x x-tree ∙ sym f-is in
-            let tail : take (8 * f) row ≡ B =
-            ap (λ (k : ℕ). take (8 * k) row) f-is ∙ g ∙ eight-fields s (get_or (instances s) i [])
-            ∙ ap (λ (p : List ℕ). factor_fields s time_field p ++ factor_fields s extent_field p) (path-is h₇ R.entries.elements e below i-is) in
-            o₂
-            ∙ ap (sets out₁ (at + 1 + f)) tail
-            ∙ ap (λ (o : List ℕ). sets o (at + 1 + f) B) (o₁ ∙ ap (λ (y : Node). sets (set out at 8) (at + 1) (padded (flat_width s.width) (flat_name s y))) (site-is h₇ R.entries.elements e below i-is q-is))
-            ∙ ap (λ (k : ℕ). sets (sets (set out at 8) (at + 1) A) (at + 1 + k) B) (sym long)
-            ∙ sym (sets-append A (set out at 8) (at + 1) B)
-            ∙ ap (λ (k : ℕ). sets (set out at 8) k (A ++ B)) (add-one at)
+      -- its row, by prefixes of the same recipe
+      pub row-requires : {r : Recipe} → r ≡ s → {sites : List ℕ} (row : List ℕ) (kept : Option ℕ) → Sited s sites → 2624 ≤ length row → IfSome kept (λ k. RowFor s k row)
+          → RowRequires r sites row y.inst × IfSome kept (λ k. RowFor r k row)
+      row-requires q row kept g h k = rw q (record { naming = names; sited = g; low = instance-is; room = h }, k)
+
+      entry-tree : In (node (get_or (instances s) y.inst []) y.place) (tree_elements s)
+      entry-tree = rw (site-is (h₇ C) C.elements e below i-is q-is) x-tree
+
+      -- and its name
+      pub name-requires : {r : Recipe} → r ≡ s → (at n : ℕ) → at + flat_width s.width ≤ n
+          → Naming r × ((y.inst < length (instances r)) × (In (node (get_or (instances r) y.inst []) y.place) (tree_elements r) × (at + flat_width r.width ≤ n)))
+      name-requires q at n h = rw q (names, (instance-is, (entry-tree, h)))
+
+      written : (out : List ℕ) (at : ℕ) {f : ℕ} (row : List ℕ) {out₁ out₂ : List ℕ} → f ≡ flat_width s.width → RowFor s y.inst row
+          → out₁ ≡ sets (set out at 8) (at + 1) (padded (flat_width s.width) (flat_name s (node (get_or (instances s) y.inst []) y.place)))
+          → out₂ ≡ sets out₁ (at + 1 + f) (take (8 * f) (drop 0 row)) → out₂ ≡ sets out at (companion_record s (element_at s e))
+      unfolding companion_record flat_field
+      written out at {f} row {out₁} {out₂} f-is g o₁ o₂ =
+          let x = element_at s e in
+          let A = flat_field s (Some x) in
+          let B = factor_fields s time_field x.path ++ factor_fields s extent_field x.path in
+          let long : length A ≡ f = name-field s two names.formed (h₇ C) (h₅ C) x x-tree ∙ sym f-is in
+          let tail : take (8 * f) row ≡ B =
+          ap (λ (k : ℕ). take (8 * k) row) f-is ∙ g ∙ eight-fields s (get_or (instances s) y.inst [])
+          ∙ ap (λ (p : List ℕ). factor_fields s time_field p ++ factor_fields s extent_field p) (path-is (h₇ C) C.elements e below i-is) in
+          o₂
+          ∙ ap (sets out₁ (at + 1 + f)) tail
+          ∙ ap (λ (o : List ℕ). sets o (at + 1 + f) B) (o₁ ∙ ap (λ (y : Node). sets (set out at 8) (at + 1) (padded (flat_width s.width) (flat_name s y))) (site-is (h₇ C) C.elements e below i-is q-is))
+          ∙ ap (λ (k : ℕ). sets (sets (set out at 8) (at + 1) A) (at + 1 + k) B) (sym long)
+          ∙ sym (sets-append A (set out at 8) (at + 1) B)
+          ∙ ap (λ (k : ℕ). sets (set out at 8) k (A ++ B)) (add-one at)
+
+      pub row-lent : {r : Recipe} → r ≡ s → (row : List ℕ) → RowFor r y.inst row → RowFor s y.inst row
+      row-lent q row g = rw q at g
+
+      pub entry-written : {r : Recipe} → r ≡ s → (out : List ℕ) (at : ℕ) {f : ℕ} (row : List ℕ) {out₁ out₂ : List ℕ} → f ≡ flat_width s.width → RowFor r y.inst row
+          → out₁ ≡ sets (set out at 8) (at + 1) (padded (flat_width r.width) (flat_name r (node (get_or (instances r) y.inst []) y.place)))
+          → out₂ ≡ sets out₁ (at + 1 + f) (take (8 * f) (drop 0 row)) → out₂ ≡ sets out at (companion_record s (element_at s e))
+      entry-written q out at row f-is g o₁ o₂ = written out at row f-is (row-lent q row g) (rw q at o₁) o₂
+
+  -- ---- the loop: with the entries that are left, what is written is the whole companion
+  pub enter-start : (out₀ : List ℕ) → entry_length s.width * length (rated s) ≤ length out₀ → {left : List ℕ} → left ≡ surviving el 0 elems → Entering s el elems out₀ out₀ left 0
+  unfolding companion
+  enter-start out₀ room e = (rw e (stay-start el elems), rw (entries-are C e) (write-start (companion_record s) (rated s) out₀ (companion-room room)))
+
+  pub enter-end : {out₀ out left : List ℕ} {p : ℕ} → Entering s el elems out₀ out left p → entry_length s.width * length (rated s) ≤ length out₀ → left ≡ [] → out ≡ companion s ++ drop (length (companion s)) out₀
+  unfolding companion
+  enter-end g room e = write-end (rw e at g.1) (companion-room room)
+
+  module _ {out₀ out left more : List ℕ} {e p : ℕ} (g : Entering s el elems out₀ out left p) (y : left ≡ e ∷ more) where
+    pub enter-low : e < elems
+    enter-low = (stay-here g.0 y).0
+
+    pub enter-off : is_rated s (element_at s e) ≡ false → Entering s el elems out₀ out more p
+    enter-off k = (stay-on g.0 y, rw (entries-off s y k) at g.1)
+
+    module _ (k : is_rated s (element_at s e) ≡ true) where
+      enter-here : WriteLoop (companion_record s) (rated s) out₀ out (element_at s e ∷ entries_left s more) p
+      enter-here = rw (entries-on s y k) at g.1
+
+      pub enter-room : {n : ℕ} → n ≡ entry_length s.width → p + n ≤ length out
+      enter-room r = omega (arith, write-room enter-here, entry-is enter-low r)
+
+      pub enter-fields : {f : ℕ} → f ≡ flat_width s.width → p + 1 + 9 * f ≤ length out
+      enter-fields r = omega (arith, write-room enter-here, entry-long enter-low r)
+
+      pub enter-on : {n : ℕ} {out' : List ℕ} → n ≡ entry_length s.width → out' ≡ sets out p (companion_record s (element_at s e)) → Entering s el elems out₀ out' more (p + n)
+      enter-on {n} r o = (stay-on g.0 y, write-on enter-here n (entry-is enter-low r) o)

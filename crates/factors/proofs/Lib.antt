@@ -5,5 +5,6 @@ pub mod Tables
 pub mod Answers
 pub mod Handed
 pub mod Entries
+pub mod Filtering
 pub mod Sites
 pub mod Paths

@@ -1,54 +1,114 @@
 -- Where the factors of an instance are: the row of the instance around it, with the two factors of its own submodel put in.
 -- Assumes nothing.
 use Rattle.std.specs.Prelude.{None, Option, Some, option_map, unwrap_or}
-use mathlib.Core.Path.{◌≡◌, sym, ap, ◌∙◌}
-use Prim.Native.Nat.{ℕ, suc, ◌+◌, ◌*◌, ◌≤◌, ◌<◌}
+use mathlib.Core.Path.{◌≡◌, refl, sym, ap, ◌∙◌}
+use Prim.Native.Nat.{ℕ, suc, ◌+◌, ◌*◌, ◌-◌, ◌≤◌, ◌<◌}
+use native.Mathlib.Nat.{add-zero}
 use native.Mathlib.Omega.{arith}
+use Rattle.std.specs.List.{copy_within}
 use mathlib.Core.Bool.{cond}
 use mathlib.Core.List.{List, [], ◌∷◌, ◌++◌}
 use lib.Dec.{eqb}
-use lib.ListN.{length, get_or, set, take, drop, length-append, length-drop, length-set}
-use lib.Seq.{sets, get_or-drop, get_or-set_other, get_or-set_same, get_or-take, length-sets, length-take-le}
-use borrow.Author.Tests.{eqb-true, eqb-false}
+use lib.ListN.{length, get_or, set, take, drop, length-append, length-drop}
+use lib.Seq.{sets, get_or-drop, get_or-set_other, get_or-take, length-sets, length-take-le}
+use borrow.Author.Tests.{eqb-true, eqb-false, ne_eqb}
 use Rattle.names.specs.Lists.{In}
 use Rattle.names.proofs.Lists.{get_or-in}
 use Rattle.names.proofs.Stores.{stored_at, stored-before}
-use Rattle.names.proofs.Tests.{by_cases, by-option, not_none, some-map, the-some, three}
+use Rattle.names.proofs.Tests.{by_cases, by-option, not_none, some-map, some-none, the-some, three}
 use Rattle.recipe.specs.Definitions.{element_in, factors_of, main, submodels}
 use Rattle.recipe.specs.Records.{Recipe, extent_field, time_field}
 use Rattle.recipe.proofs.Definitions.{in-submodels}
+use Rattle.shadow.specs.Shadow.{linked}
 use Rattle.shadow.proofs.Cells.{row_room as cells-room}
 use Rattle.tree.specs.Numbers.{number}
 use Rattle.tree.specs.Tree.{Node, definition_at, instances, node, tree_elements}
+use Rattle.tree.specs.Planted.{Planted}
+use Rattle.targets.proofs.Resolving.{not-zero}
+use Rattle.elements.proofs.Elements.{element-held}
 use Rattle.tree.proofs.Instances.{depth, instance-path}
 use Rattle.marks.specs.Faults.{factor_named}
 use Rattle.marks.specs.Marks.{chain_end}
 use Rattle.marks.proofs.Chain.{chain-in}
-use Rattle.flat_names.proofs.Filling.{main-path}
-use Rattle.factor_ends.specs.FactorEnds.{ChainsRequires, Factor, FactorAt, FactorEnd, end_from}
-use Rattle.composer.specs.Writing.{SiteAt}
-use Rattle.composer.proofs.Fields.{a-site, end-room, end-site, end-tree, no-site}
+use Rattle.flat_names.proofs.Filling.{main-path, row-copied}
+use Rattle.references.specs.Ends.{end_cell}
+use Rattle.factor_ends.specs.FactorEnds.{Factor, FactorAt, FactorEnd, end_from}
+use Rattle.compose.specs.Composed.{Composed}
+use Rattle.composer.specs.declared.Site.{Site}
+use Rattle.composer.specs.Writing.{linked_site, node_at, numbered_site, row_site, site_of}
+use Rattle.composer.proofs.Fields.{end-room, end-site, end-tree}
 use Rattle.factors.specs.Companion.{factor_for}
-use Rattle.factors.specs.Sites.{FactorSite, SiteIs, Sited, SitesRequires, SitesTo, factor_field}
+use Rattle.factors.specs.Sites.{FactorSite, SiteIs, site_cells, stored_site, SitesTo, factor_field}
 use Rattle.factors.proofs.Paths.{extent-beyond, extent-field, factors-none, factors-some, main-fields, named-tree, outer-field, scaling, split-last, time-beyond, time-field}
 
 -- ---- what a site says
--- there is none where the record is 0
-pub blank-site : (s : Recipe) (i : ℕ) {o : Option Node} {m : ℕ} → o ≡ None → m ≡ 0 → SiteIs s o i m
-blank-site s i n z = record { is = no-site s i _ z ∙ sym n; inside = λ f. absurd (f z) }
+pub blank-site : (s : Recipe) {o : Option Node} → o ≡ None → SiteIs s o None
+unfolding site_of
+blank-site s n = record { is = sym n; inside = tt }
 
 -- what is there is an element of the tree
-pub site-in : {s : Recipe} {o : Option Node} {i m : ℕ} → SiteIs s o i m → (y : Node) → o ≡ Some y → In y (tree_elements s)
-site-in {s} {o} {i} {m} S y n =
-    by_cases (eqb m 0)
-    (λ t. not_none (sym (no-site s i m (eqb-true m 0 t)) ∙ S.is ∙ n))
-    (λ t.
-    let z = eqb-false m 0 t in
-    let e = the-some (sym (a-site s i m z) ∙ S.is ∙ n) in
-    rw e at (S.inside z).1)
+pub site-in : {s : Recipe} {o : Option Node} (x : Option Site) → SiteIs s o x → (y : Node) → o ≡ Some y → In y (tree_elements s)
+unfolding site_of
+site-in None S y n = not_none (S.is ∙ n)
+site-in (Some x) S y n = let e = the-some (S.is ∙ n) in rw e at S.inside.1
+
+-- a site reads as it was written, for no record stands at 0
+module _ (sites : List ℕ) (k : ℕ) where
+  read-none : get_or sites (k + 1) 0 ≡ 0 → stored_site sites k ≡ None
+  unfolding stored_site linked_site
+  read-none z = rw (z, linked) refl
+
+  read-some : (x : Site) → get_or sites (k + 0) 0 ≡ x.inst → get_or sites (k + 1) 0 ≡ x.place → (x.place ≡ 0 → ⊥) → stored_site sites k ≡ Some x
+  unfolding stored_site linked_site
+  read-some x a b z = rw (a, b, ne_eqb x.place 0 z) refl
+
+  -- two places that agree
+  read_moved : (other : List ℕ) (j : ℕ) → get_or sites k 0 ≡ get_or other j 0 → get_or sites (k + 1) 0 ≡ get_or other (j + 1) 0 → stored_site sites k ≡ stored_site other j
+  unfolding stored_site
+  read_moved other j a b = rw (add-zero k, add-zero j, a, b) refl
+
+  read_same : (other : List ℕ) → get_or sites k 0 ≡ get_or other k 0 → get_or sites (k + 1) 0 ≡ get_or other (k + 1) 0 → stored_site sites k ≡ stored_site other k
+  read_same other a b = read_moved other k a b
+
+-- what is behind what is stored
+stored-behind : (xs out : List ℕ) (at k : ℕ) → at + length xs ≤ k → get_or (sets out at xs) k 0 ≡ get_or out k 0
+stored-behind [] out at k h = refl
+stored-behind (x ∷ xs) out at k h = stored-behind xs (set out at x) (suc at) k (omega arith) ∙ get_or-set_other out at k x 0 (λ n. omega arith)
+
+two-cells : (x : Option Site) → length (site_cells x) ≡ 2
+unfolding site_cells
+two-cells None = refl
+two-cells (Some x) = refl
+
+pub cells-are : (o : Option Site) (x : Site) → x ≡ unwrap_or o (record { inst = 0; place = 0 }) → x.inst ∷ x.place ∷ [] ≡ site_cells o
+unfolding site_cells
+cells-are None x e = rw e refl
+cells-are (Some y) x e = rw e refl
+
+-- what is put there is read
+put-reads : {s : Recipe} {o : Option Node} (x : Option Site) → SiteIs s o x → (sites : List ℕ) (at : ℕ) → at + 1 < length sites → {sites' : List ℕ} → sites' ≡ sets sites at (site_cells x) → stored_site sites' at ≡ x
+unfolding site_cells node
+put-reads None S sites at l {sites'} e =
+    read-none sites' at (ap (λ (o : List ℕ). get_or o (at + 1) 0) e ∙ stored_at (0 ∷ 0 ∷ []) sites at 1 (omega arith) (omega arith))
+put-reads {s} (Some x) S sites at l {sites'} e =
+    let h = element-held s (node_at s x) S.inside.1 in
+    read-some sites' at x
+    (ap (λ (o : List ℕ). get_or o (at + 0) 0) e ∙ stored_at (x.inst ∷ x.place ∷ []) sites at 0 (omega arith) (omega arith))
+    (ap (λ (o : List ℕ). get_or o (at + 1) 0) e ∙ stored_at (x.inst ∷ x.place ∷ []) sites at 1 (omega arith) (omega arith))
+    (not-zero s _ x.place h.inside)
+
+-- ---- what a cell names
+pub linked-none : {x : ℕ} → None ≡ linked x → x ≡ 0
+linked-none {x} e = by_cases (eqb x 0) (λ t. eqb-true x 0 t) (λ t. not_none {a = x} (e ∙ rw t refl))
+
+pub linked-some : {x q : ℕ} → Some q ≡ linked x → (q ≡ x) × (q ≡ 0 → ⊥)
+linked-some {x} {q} e =
+    by_cases (eqb x 0)
+    (λ t. some-none (e ∙ rw t refl))
+    (λ t. let h : q ≡ x = the-some (e ∙ rw t refl) in (h, λ z. eqb-false x 0 t (sym h ∙ z)))
 
 -- ---- the end of a factor's chain, by its number
-module _ {s : Recipe} {t el : List ℕ} (C : ChainsRequires s t el) {f q z : ℕ} (E : FactorEnd s f q z) where
+module _ {s : Recipe} {t inst el : List ℕ} {insts elems : ℕ} (C : Composed s t inst el insts elems) {f q z : ℕ} (E : FactorEnd s f q z) where
   abbrev ended : List ℕ → Option ℕ → Option Node
   ended path o = option_map (chain_end s) (option_map (node path) o)
 
@@ -58,7 +118,7 @@ module _ {s : Recipe} {t el : List ℕ} (C : ChainsRequires s t el) {f q z : ℕ
     ended-in y n =
         let a = some-map (chain_end s) (option_map (node path) o) y n in
         let b = some-map (node path) o a.0 a.1 in
-        rw a.2 (chain-in s C.elements.aimed.measured.linked.row₅ C.elements.row₇ 5 a.0 (rw b.2 (F.tree b.0 b.1)))
+        rw a.2 (chain-in s C.targeted.planted.measured.linked.row₅ C.targeted.planted.row₇ 5 a.0 (rw b.2 (F.tree b.0 b.1)))
 
     ended-none : ended path o ≡ None → z ≡ 0
     unfolding end_from
@@ -78,23 +138,42 @@ module _ {s : Recipe} {t el : List ℕ} (C : ChainsRequires s t el) {f q z : ℕ
         end-number b.0 b.1 ∙ ap (λ (v : Node). number s v + 1) (sym (a.2 ∙ ap (chain_end s) b.2))
 
     room_of : 5 * z ≤ length el
-    room_of = end-room C.elements.row₇ C.rows ended-in ended-none ended_some
+    room_of = end-room C.targeted.planted.row₇ C.elements ended-in ended-none ended_some
 
-  pub factor-room : FactorAt s f q → 5 * z ≤ length el
+  factor-room : FactorAt s f q → 5 * z ≤ length el
   factor-room A = room_of A.path A.named A.is
 
-  pub factor-site : {i m : ℕ} → SiteAt el z i m → FactorSite s f q i m
+  factor-site : {x : Option Site} → x ≡ numbered_site el z → FactorSite s f q x
   factor-site at path o F = record {
-    is = end-site C.elements.row₇ C.rows (ended-in path o F) (ended-none path o F) (ended_some path o F) at;
-    inside = end-tree C.elements.row₇ C.rows (ended-in path o F) (ended-none path o F) (ended_some path o F) at;
+    is = end-site C.targeted.planted.row₇ C.elements (ended-in path o F) (ended-none path o F) (ended_some path o F) at;
+    inside = end-tree C.targeted.planted.row₇ C.elements (ended-in path o F) (ended-none path o F) (ended_some path o F) at;
   }
+
+-- as it is found
+module _ {s : Recipe} {t inst el : List ℕ} {insts elems : ℕ} (C : Composed s t inst el insts elems) {f q : ℕ} (r : Option ℕ) (E : FactorEnd s f q (end_cell r)) where
+  pub lost-site : r ≡ None → FactorSite s f q None
+  unfolding numbered_site
+  lost-site n = factor-site C (rw n at E) refl
+
+  module _ {z : ℕ} (e : r ≡ Some z) where
+    found-end : FactorEnd s f q (z + 1)
+    found-end = rw e at E
+
+    pub found-room : FactorAt s f q → 5 * z + 5 ≤ length el
+    found-room A = omega (arith, factor-room C found-end A)
+
+    pub found-site : {x : Site} → x ≡ row_site el z → FactorSite s f q (Some x)
+    unfolding numbered_site
+    found-site h =
+        let back : z + 1 - 1 ≡ z = omega arith in
+        factor-site C found-end (ap Some h ∙ sym (rw (ne_eqb (z + 1) 0 (λ n. omega (arith, n)), back) refl))
 
 -- ---- a row that is being filled: those before it are done, and its fields are F
 pub record SiteRow (s : Recipe) (sites : List ℕ) (i : ℕ) (F : ℕ → Option Node) : Type 0 where
   pub low : i < length (instances s)
   pub room : 16 * length (instances s) ≤ length sites
-  pub are : (k j : ℕ) → k < i → j < 8 → SiteIs s (factor_field s (get_or (instances s) k []) j) (get_or sites (16 * k + 2 * j) 0) (get_or sites (16 * k + 2 * j + 1) 0)
-  pub own : (j : ℕ) → j < 8 → SiteIs s (F j) (get_or sites (16 * i + 2 * j) 0) (get_or sites (16 * i + 2 * j + 1) 0)
+  pub are : (k j : ℕ) → k < i → j < 8 → SiteIs s (factor_field s (get_or (instances s) k []) j) (stored_site sites (16 * k + 2 * j))
+  pub own : (j : ℕ) → j < 8 → SiteIs s (F j) (stored_site sites (16 * i + 2 * j))
 
 -- main's is blank
 pub sites-start : {s : Recipe} (sites : List ℕ) → 16 * length (instances s) ≤ length sites → ((k : ℕ) → get_or sites k 0 ≡ 0) → SitesTo s sites 1
@@ -102,14 +181,15 @@ sites-start {s} sites h z = record {
   room = h;
   are = λ k j l m.
       let e : k ≡ 0 = omega arith in
-      rw e (blank-site s _ (ap (λ (p : List ℕ). factor_field s p j) (main-path s) ∙ main-fields s j) (z (16 * 0 + 2 * j + 1)));
+      rw (e, read-none sites (16 * 0 + 2 * j) (z (16 * 0 + 2 * j + 1))) (blank-site s (ap (λ (p : List ℕ). factor_field s p j) (main-path s) ∙ main-fields s j));
 }
 
 module _ {s : Recipe} {sites : List ℕ} {i : ℕ} where
   -- a copy of an earlier row
-  pub row_copied : SitesTo s sites i → {u : ℕ} → u < i → i < length (instances s) → {sites' : List ℕ} → sites' ≡ sets sites (16 * i) (take 16 (drop (16 * u) sites))
+  pub row_copied : SitesTo s sites i → {u : ℕ} → u < i → i < length (instances s) → {sites' : List ℕ} → sites' ≡ copy_within sites (16 * u) (16 * u + 16) (16 * i)
       → SiteRow s sites' i (factor_field s (get_or (instances s) u []))
-  row_copied g {u} under low {sites'} e =
+  row_copied g {u} under low {sites'} c =
+      let e : sites' ≡ sets sites (16 * i) (take 16 (drop (16 * u) sites)) = c ∙ row-copied sites (16 * u) 16 (16 * i) (omega (arith, g.room)) (omega (arith, g.room)) in
       let part = take 16 (drop (16 * u) sites) in
       let room = g.room in
       let long : length part ≡ 16 = length-take-le 16 (drop (16 * u) sites) (omega (arith, length-drop (16 * u) sites)) in
@@ -119,38 +199,40 @@ module _ {s : Recipe} {sites : List ℕ} {i : ℕ} where
       record {
         low = low;
         room = omega (arith, ap length e, length-sets sites (16 * i) part);
-        are = λ k j l m. rw (before (16 * k + 2 * j) (omega arith), before (16 * k + 2 * j + 1) (omega arith)) (g.are k j l m);
+        are = λ k j l m. rw (read_same sites' (16 * k + 2 * j) sites (before (16 * k + 2 * j) (omega arith)) (before (16 * k + 2 * j + 1) (omega arith))) (g.are k j l m);
         own = λ j m.
             let a : 16 * i + 2 * j + 1 ≡ 16 * i + (2 * j + 1) = omega arith in
-            let b : 16 * u + 2 * j + 1 ≡ 16 * u + (2 * j + 1) = omega arith in
-            rw (a, there (2 * j) (omega arith), there (2 * j + 1) (omega arith), ← b) (g.are u j under m);
+            let b : 16 * u + (2 * j + 1) ≡ 16 * u + 2 * j + 1 = omega arith in
+            rw (read_moved sites' (16 * i + 2 * j) sites (16 * u + 2 * j) (there (2 * j) (omega arith)) (rw (a, ← b) (there (2 * j + 1) (omega arith)))) (g.are u j under m);
       }
 
   -- one field is put in
-  pub row_put : {F : ℕ → Option Node} → SiteRow s sites i F → (c : ℕ) → c < 8 → {o : Option Node} {a b : ℕ} → SiteIs s o a b
-      → {sites' : List ℕ} → sites' ≡ sets sites (16 * i + 2 * c) (a ∷ b ∷ []) → SiteRow s sites' i (λ j. cond (eqb j c) o (F j))
-  row_put {F} g c h {o} {a} {b} S {sites'} e =
+  pub row_put : {F : ℕ → Option Node} → SiteRow s sites i F → (c : ℕ) → c < 8 → {o : Option Node} {x : Option Site} → SiteIs s o x
+      → {sites' : List ℕ} → sites' ≡ sets sites (16 * i + 2 * c) (site_cells x) → SiteRow s sites' i (λ j. cond (eqb j c) o (F j))
+  row_put {F} g c h {o} {x} S {sites'} e =
       let low = g.low in
       let room = g.room in
       let at = 16 * i + 2 * c in
-      let long : length sites' ≡ length sites = ap length e ∙ length-sets sites at (a ∷ b ∷ []) in
-      let other : (k : ℕ) → (k ≡ at → ⊥) → (k ≡ suc at → ⊥) → get_or sites' k 0 ≡ get_or sites k 0 = λ k n m.
-      ap (λ (l : List ℕ). get_or l k 0) e ∙ get_or-set_other (set sites at a) (suc at) k b 0 m ∙ get_or-set_other sites at k a 0 n in
-      let first : get_or sites' at 0 ≡ a =
-      ap (λ (l : List ℕ). get_or l at 0) e ∙ get_or-set_other (set sites at a) (suc at) at b 0 (λ n. omega arith) ∙ get_or-set_same sites at a 0 (omega arith) in
-      let second : get_or sites' (at + 1) 0 ≡ b =
-      let n : at + 1 ≡ suc at = omega arith in
-      ap (λ (l : List ℕ). get_or l (at + 1) 0) e ∙ ap (λ (k : ℕ). get_or (set (set sites at a) (suc at) b) k 0) n ∙ get_or-set_same (set sites at a) (suc at) b 0 (omega (arith, length-set sites at a)) in
+      let two = two-cells x in
+      let long : length sites' ≡ length sites = ap length e ∙ length-sets sites at (site_cells x) in
+      let before : (k : ℕ) → k < at → get_or sites' k 0 ≡ get_or sites k 0 = λ k l. ap (λ (o : List ℕ). get_or o k 0) e ∙ stored-before (site_cells x) sites at k l in
+      let behind : (k : ℕ) → at + 2 ≤ k → get_or sites' k 0 ≡ get_or sites k 0 = λ k l. ap (λ (o : List ℕ). get_or o k 0) e ∙ stored-behind (site_cells x) sites at k (omega arith) in
+      let other : (k : ℕ) → (k ≡ at → ⊥) → (k + 1 ≡ at → ⊥) → (k ≡ at + 1 → ⊥) → stored_site sites' k ≡ stored_site sites k = λ k n m q.
+      three k at
+      (λ l. read_same sites' k sites (before k l) (before (k + 1) (omega arith)))
+      (λ l. absurd (n l))
+      (λ l. read_same sites' k sites (behind k (omega arith)) (behind (k + 1) (omega arith))) in
+      let this : stored_site sites' at ≡ x = put-reads x S sites at (omega arith) e in
       record {
         low = low;
         room = omega arith;
-        are = λ k j l m. rw (other (16 * k + 2 * j) (λ n. omega arith) (λ n. omega arith), other (16 * k + 2 * j + 1) (λ n. omega arith) (λ n. omega arith)) (g.are k j l m);
+        are = λ k j l m. rw (other (16 * k + 2 * j) (λ n. omega arith) (λ n. omega arith) (λ n. omega arith)) (g.are k j l m);
         own = λ j m.
             by_cases (eqb j c)
-            (λ t. let n = eqb-true j c t in rw (t, n, first, second) S)
+            (λ t. let n = eqb-true j c t in rw (t, n, this) S)
             (λ t.
             let n = eqb-false j c t in
-            rw (t, other (16 * i + 2 * j) (λ q. n (omega arith)) (λ q. omega arith), other (16 * i + 2 * j + 1) (λ q. omega arith) (λ q. n (omega arith))) (g.own j m));
+            rw (t, other (16 * i + 2 * j) (λ q. n (omega arith)) (λ q. omega arith) (λ q. omega arith)) (g.own j m));
       }
 
   -- it is done
@@ -164,37 +246,38 @@ module _ {s : Recipe} {sites : List ℕ} {i : ℕ} where
         (λ v. absurd (omega arith));
   }
 
-pub sites-end : {s : Recipe} {sites : List ℕ} {i n : ℕ} → n ≡ length (instances s) → SitesTo s sites i → i ≤ n → n ≤ i → Sited s sites
-sites-end {s} {i = i} e g a b = let z : i ≡ length (instances s) = omega arith in rw z at g
-
 -- ---- instance i, behind the instance u around it
-module _ {s : Recipe} {t inst el : List ℕ} (R : SitesRequires s t inst el) {i : ℕ} (pos : 0 < i) (low : i < length (instances s)) {u : ℕ} (u-is : u ≡ get_or inst (6 * i + 4) 0) where
+module _ {s : Recipe} {t inst el : List ℕ} {insts elems : ℕ} (C : Composed s t inst el insts elems)
+    {i : ℕ} (pos : 0 < i) (low : i < length (instances s)) {u : ℕ} (u-is : u ≡ get_or inst (6 * i + 4) 0) where
+  P : Planted s t inst (length (instances s))
+  P = rw C.targeted.planted.rows.count at C.targeted.planted
+
   around : List ℕ
   around = get_or (instances s) u []
 
   pub under : u < i
-  under = omega (arith, u-is, R.planted.rows.below i low pos)
+  under = omega (arith, u-is, P.rows.below i low pos)
 
   around-in : In around (instances s)
   unfolding around
   around-in = get_or-in (instances s) u [] (omega (arith, under))
 
   pub around-row : 6 * u + 6 ≤ length inst
-  around-row = omega (arith, under, R.planted.rows.room)
+  around-row = omega (arith, under, P.rows.room)
 
   -- its depth, by its row
   deep : {d : ℕ} → d ≡ get_or inst (6 * u + 1) 0 → d ≡ length around
   unfolding around
-  deep d-is = d-is ∙ R.planted.rows.depth u (omega (arith, under))
+  deep d-is = d-is ∙ P.rows.depth u (omega (arith, under))
 
   module _ {m : ℕ} (m-is : m ≡ get_or inst (6 * i + 3) 0) where
     path-is : get_or (instances s) i [] ≡ around ++ (m ∷ [])
     unfolding around
-    path-is = R.planted.rows.above i low pos ∙ sym (rw (m-is, u-is))
+    path-is = P.rows.above i low pos ∙ sym (rw (m-is, u-is))
 
     short : length around < 4
     short =
-        omega (arith, ap length path-is, length-append around (m ∷ []), depth s R.planted.row₇ (get_or (instances s) i []) (get_or-in (instances s) i [] low))
+        omega (arith, ap length path-is, length-append around (m ∷ []), depth s P.row₇ (get_or (instances s) i []) (get_or-in (instances s) i [] low))
 
     pub shallow : {d : ℕ} → d ≡ get_or inst (6 * u + 1) 0 → d < 4
     shallow d-is = omega (arith, deep d-is, short)
@@ -207,12 +290,12 @@ module _ {s : Recipe} {t inst el : List ℕ} (R : SitesRequires s t inst el) {i 
     submodel = split-last s main around m (rw path-is at (instance-path s (get_or (instances s) i []) (get_or-in (instances s) i [] low)))
 
     pub submodel-room : m + 13 ≤ length t
-    submodel-room = cells-room R.planted.measured.linked.numbered.shadowed m (in-submodels s (definition_at s around) m submodel).placed
+    submodel-room = cells-room P.measured.linked.numbered.shadowed m (in-submodels s (definition_at s around) m submodel).placed
 
     -- its own kind 8, by its cell
     module _ {k : ℕ} (k-is : k ≡ get_or t (m + 5) 0) where
       cell-is : k ≡ unwrap_or (factors_of s m) 0
-      cell-is = let h = in-submodels s (definition_at s around) m submodel in k-is ∙ R.planted.measured.paired.factors m h.placed h.passes
+      cell-is = let h = in-submodels s (definition_at s around) m submodel in k-is ∙ P.measured.paired.factors m h.placed h.passes
 
       -- there is none: the row stays
       pub row-none : k ≡ 0 → {sites : List ℕ} → SiteRow s sites i (factor_field s (get_or (instances s) u [])) → SitesTo s sites (i + 1)
@@ -237,7 +320,7 @@ module _ {s : Recipe} {t inst el : List ℕ} (R : SitesRequires s t inst el) {i 
         some_is = factors-some s m around around-in submodel cell-is z
 
         pub factors-room : k + 13 ≤ length t
-        factors-room = cells-room R.planted.measured.linked.numbered.shadowed k (scaling s m k some_is).placed
+        factors-room = cells-room P.measured.linked.numbered.shadowed k (scaling s m k some_is).placed
 
         module _ {f : ℕ} (f-is : f ≡ get_or inst (6 * u + 2) 0) where
           -- a field of it, by its cell
@@ -245,7 +328,7 @@ module _ {s : Recipe} {t inst el : List ℕ} (R : SitesRequires s t inst el) {i 
           unfolding around
           factor field e = record {
             inside = around-in;
-            first = f-is ∙ R.planted.rows.start u (omega (arith, under));
+            first = f-is ∙ P.rows.start u (omega (arith, under));
             is = e;
             tree = λ x n. named-tree s m around around-in submodel k (field s k) x some_is n;
           }
@@ -256,10 +339,10 @@ module _ {s : Recipe} {t inst el : List ℕ} (R : SitesRequires s t inst el) {i 
 
           module _ {q : ℕ} where
             time-factor : q ≡ get_or t (k + 3) 0 → Factor s f q around (element_in s k (time_field s k))
-            time-factor e = let h = scaling s m k some_is in factor time_field (e ∙ R.planted.measured.linked.times k h.placed h.passes)
+            time-factor e = let h = scaling s m k some_is in factor time_field (e ∙ P.measured.linked.times k h.placed h.passes)
 
             extent-factor : q ≡ get_or t (k + 5) 0 → Factor s f q around (element_in s k (extent_field s k))
-            extent-factor e = let h = scaling s m k some_is in factor extent_field (e ∙ R.planted.measured.linked.extents k h.placed h.passes)
+            extent-factor e = let h = scaling s m k some_is in factor extent_field (e ∙ P.measured.linked.extents k h.placed h.passes)
 
             pub time-at : q ≡ get_or t (k + 3) 0 → FactorAt s f q
             time-at e = record { path = around; named = element_in s k (time_field s k); is = time-factor e }
@@ -267,16 +350,16 @@ module _ {s : Recipe} {t inst el : List ℕ} (R : SitesRequires s t inst el) {i 
             pub extent-at : q ≡ get_or t (k + 5) 0 → FactorAt s f q
             extent-at e = record { path = around; named = element_in s k (extent_field s k); is = extent-factor e }
 
-            time-site : q ≡ get_or t (k + 3) 0 → {a b : ℕ} → FactorSite s f q a b → SiteIs s (factor_for s time_field around m) a b
+            time-site : q ≡ get_or t (k + 3) 0 → {a : Option Site} → FactorSite s f q a → SiteIs s (factor_for s time_field around m) a
             time-site e S = rw (factor-is time_field) at (S around (element_in s k (time_field s k)) (time-factor e))
 
-            extent-site : q ≡ get_or t (k + 5) 0 → {a b : ℕ} → FactorSite s f q a b → SiteIs s (factor_for s extent_field around m) a b
+            extent-site : q ≡ get_or t (k + 5) 0 → {a : Option Site} → FactorSite s f q a → SiteIs s (factor_for s extent_field around m) a
             extent-site e S = rw (factor-is extent_field) at (S around (element_in s k (extent_field s k)) (extent-factor e))
 
           -- both are put in
-          pub row-both : {d : ℕ} → d ≡ get_or inst (6 * u + 1) 0 → {sites sites₁ sites₂ : List ℕ} {q q' a b a' b' : ℕ} → SiteRow s sites i (factor_field s (get_or (instances s) u []))
-              → q ≡ get_or t (k + 3) 0 → FactorSite s f q a b → sites₁ ≡ sets sites (16 * i + 2 * d) (a ∷ b ∷ [])
-              → q' ≡ get_or t (k + 5) 0 → FactorSite s f q' a' b' → sites₂ ≡ sets sites₁ (16 * i + 2 * (4 + d)) (a' ∷ b' ∷ [])
+          pub row-both : {d : ℕ} → d ≡ get_or inst (6 * u + 1) 0 → {sites sites₁ sites₂ : List ℕ} {q q' : ℕ} {a a' : Option Site} → SiteRow s sites i (factor_field s (get_or (instances s) u []))
+              → q ≡ get_or t (k + 3) 0 → FactorSite s f q a → sites₁ ≡ sets sites (16 * i + 2 * d) (site_cells a)
+              → q' ≡ get_or t (k + 5) 0 → FactorSite s f q' a' → sites₂ ≡ sets sites₁ (16 * i + 2 * (4 + d)) (site_cells a')
               → SitesTo s sites₂ (i + 1)
           unfolding around
           row-both {d} d-is {sites} {sites₁} {sites₂} g e S o e' S' o' =

@@ -2,36 +2,33 @@
 // Public call, which requires nothing: bandrolt_flatten_with_factors, exported to C by factors_c.
 #![tactic(auto)]
 
-ghost use Rattle.std.specs.Prelude.{◌≡◌, [], ◌++◌, ◌∷◌, ◌+◌, ◌*◌, ◌<◌, ◌≤◌, length, take, drop};
+ghost use Rattle.std.specs.Prelude.{◌≡◌, ◌++◌, ◌+◌, ◌*◌, ◌<◌, ◌≤◌, length, drop, IfSome};
 ghost use Rattle.std.proofs.lemmas.List.Edits.{sets};
 ghost use Rattle.names.specs.Judging.{row_number};
 ghost use Rattle.flat_table.specs.Table.{flat_length};
-ghost use Rattle.recipe.specs.Records.{recipe_at};
+ghost use Rattle.recipe.specs.Records.{recipe};
 ghost use Rattle.tree.specs.Tree.{instances, tree_elements};
 ghost use Rattle.marks.specs.Marks.{survivors};
-ghost use Rattle.compose.specs.Composed.{Composed};
 ghost use Rattle.compose.specs.Rows.{Unrefused};
-ghost use Rattle.factor_ends.specs.FactorEnds.{ChainsRequires, FactorAt};
+ghost use Rattle.factor_ends.specs.FactorEnds.{FactorAt};
 ghost use Rattle.composer.specs.Flat.{flat};
 ghost use Rattle.composer.specs.Verdicts.{recipe_of};
 ghost use Rattle.composer.specs.Writing.{element_at};
-ghost use Rattle.factors.specs.Companion.{rated, companion, entry_length, factors_refused, factors_verdict, table_after, companion_after};
-ghost use Rattle.factors.specs.Sites.{is_entry, EntryRequires, FactorSite, SitesTo, Sited, SitesRequires, RowFor, RowRequires, CompanionRequires};
+ghost use Rattle.factors.specs.Companion.{is_rated, rated, companion, entry_length, factors_refused, factors_verdict, table_after, companion_after};
+ghost use Rattle.factors.specs.Sites.{site_cells, stored_site, FactorSite, SitesTo, Sited, RowFor, RowRequires};
 
-use composer::Site;
-use elements::{GONE, INSTANCE, RECORD};
+use compose::{Composition, Rooms};
+use composer::{Site, Survivors};
+use flat_names::Prefixes;
+use flat_table::Class;
 use names::{Reason, Refusal};
 use shadow::cell;
-use tree::Size;
 
 // Sixteen for each of 64 instances: the instance and the record of eight factors.
 const SITE_CELLS: usize = 1024;
 
 // Eight fields, for names of 64 bytes.
 const ROW_BYTES: usize = 2624;
-
-// No instance has this number.
-const NO_INSTANCE: usize = 64;
 
 // The answer of flattening with factors: 0, or the number and place of the refusal; the records and bytes of the flat table, and the entries of the companion.
 #[repr(C)]
@@ -52,180 +49,126 @@ fn entry_width(w: usize) -> usize
     1 + 9 * composer::field_width(w)
 }
 
-// Whether the element of number e survives and has class 4 or 6.
-fn is_entry(s: &[u8], w: usize, el: &[u16], e: usize) -> bool
-    requires { EntryRequires (recipe_at w s.now) el.now × (e < length (tree_elements (recipe_at w s.now))) }
-    ensures { result ≡ is_entry (recipe_at w s.now) (element_at (recipe_at w s.now) e) }
+// Whether the element of number e has class 4 or 6.
+fn is_rated(c: &Composition, e: usize) -> bool
+    requires { e < length (tree_elements (recipe c.now.tree.source.now)) }
+    ensures { result ≡ is_rated (recipe c.now.tree.source.now) (element_at (recipe c.now.tree.source.now) e) }
 {
-    if cell(el, 5 * e, GONE) != 0 {
-        return false;
-    }
-    let q = cell(el, 5 * e, RECORD);
-    let k = s[q + 1 + w];
-    (k == 4) | (k == 6)
+    let s = c.tree.source;
+    let k = s.bytes[Site::of(c.elements, e).place + 1 + s.width];
+    (k == Class::Reaction as u8) | (k == Class::RateRule as u8)
 }
 
-// How many there are of them.
-fn count_entries(s: &[u8], w: usize, el: &[u16], elems: usize) -> usize
-    requires { EntryRequires (recipe_at w s.now) el.now × (elems ≡ length (tree_elements (recipe_at w s.now))) }
-    ensures { result ≡ length (rated (recipe_at w s.now)) }
+// How many survivors have.
+fn count_entries(c: &Composition) -> usize
+    ensures { result ≡ length (rated (recipe c.now.tree.source.now)) }
 {
-    let mut e = 0usize;
-    let mut n = 0usize;
-    while e < elems {
-        if is_entry(s, w, el, e) {
-            n += 1;
-            e += 1;
-        } else {
-            e += 1;
-        }
-    }
-    n
+    Survivors::of(c).filter(|&e| is_rated(c, e)).count()
 }
 
 // Where the end of the chain is from the factor at q, in the instance whose first element has the number f.
-fn factor_site(s: &[u8], w: usize, t: &[u16], el: &[u16], f: usize, q: usize) -> Site
-    requires { ChainsRequires (recipe_at w s.now) t.now el.now × FactorAt (recipe_at w s.now) f q }
-    ensures { FactorSite (recipe_at w s.now) f q result.inst result.record × ((result.inst < 65536) × (result.record < 65536)) }
+fn factor_site(c: &Composition, f: usize, q: usize) -> Option<Site>
+    requires { FactorAt (recipe c.now.tree.source.now) f q }
+    ensures { FactorSite (recipe c.now.tree.source.now) f q result × IfSome result (λ x. (x.inst < 65536) × (x.place < 65536)) }
 {
-    let z = factor_ends::factor_end(s, w, t, el, f, q);
-    composer::site_at(el, z)
+    let z = factor_ends::factor_end(&c.tree, c.elements, f, q)?;
+    Some(Site::of(c.elements, z))
 }
 
-// Writes a site.
-fn put_site(sites: &mut [u16], at: usize, x: Site)
-    requires { (at + 1 < length sites.old) × ((x.inst < 65536) × (x.record < 65536)) }
-    ensures { sites.new ≡ sets sites.old at (x.inst ∷ x.record ∷ []) }
+// Writes a site: two numbers, both 0 for none.
+fn put_site(sites: &mut [u16], at: usize, site: Option<Site>)
+    requires { (at + 1 < length sites.old) × IfSome site (λ x. (x.inst < 65536) × (x.place < 65536)) }
+    ensures { sites.new ≡ sets sites.old at (site_cells site) }
 {
-    let i = x.inst;
-    let m = x.record;
-    sites[at] = i as u16;
-    sites[at + 1] = m as u16;
+    let x = site.unwrap_or(Site { inst: 0, place: 0 });
+    sites[at] = x.inst as u16;
+    sites[at + 1] = x.place as u16;
 }
 
-// Copies a row of sites to one behind it.
-fn copy_sites(sites: &mut [u16], from: usize, to: usize)
-    requires { (from + 16 ≤ to) × (to + 16 ≤ length sites.old) }
-    ensures { sites.new ≡ sets sites.old to (take 16 (drop from sites.old)) }
+// Reads one.
+fn site_in(sites: &[u16], at: usize) -> Option<Site>
+    requires { at + 1 < length sites.now }
+    ensures { result ≡ stored_site sites.now at }
 {
-    let mut k = 0;
-    while k < 16 {
-        sites[to + k] = sites[from + k];
-        k += 1;
-    }
+    Site::linked(cell(sites, at, 0), sites, at, 1)
 }
 
 // The row of instance i: that of the instance around it, and the factors of its own submodel, which are named there.
-fn fill_row(s: &[u8], w: usize, t: &[u16], inst: &[u16], el: &[u16], i: usize, sites: &mut [u16])
-    requires { SitesRequires (recipe_at w s.now) t.now inst.now el.now × (((0 < i) × (i < length (instances (recipe_at w s.now)))) × SitesTo (recipe_at w s.now) sites.old i) }
-    ensures { SitesTo (recipe_at w s.now) sites.new (i + 1) }
+fn fill_row(c: &Composition, i: usize, sites: &mut [u16])
+    requires { ((0 < i) × (i < length (instances (recipe c.now.tree.source.now)))) × SitesTo (recipe c.now.tree.source.now) sites.old i }
+    ensures { SitesTo (recipe c.now.tree.source.now) sites.new (i + 1) }
 {
+    let t = c.tree.shadow;
+    let inst = c.tree.instances;
     let u = cell(inst, 6 * i, tree::AROUND);
     let d = cell(inst, 6 * u, tree::DEPTH);
     let m = cell(inst, 6 * i, tree::SUBMODEL_RECORD);
-    copy_sites(sites, 16 * u, 16 * i);
-    let k = cell(t, m, shadow::FACTORS);
-    if k == 0 {
+    sites.copy_within(16 * u..16 * u + 16, 16 * i);
+    let Some(k) = shadow::link(t, m, shadow::FACTORS) else {
         return;
-    }
+    };
     let f = cell(inst, 6 * u, tree::FIRST_ELEMENT);
-    let x = factor_site(s, w, t, el, f, cell(t, k, shadow::TIME_FACTOR));
+    let x = factor_site(c, f, cell(t, k, shadow::TIME_FACTOR));
     put_site(sites, 16 * i + 2 * d, x);
-    let y = factor_site(s, w, t, el, f, cell(t, k, shadow::EXTENT_FACTOR));
+    let y = factor_site(c, f, cell(t, k, shadow::EXTENT_FACTOR));
     put_site(sites, 16 * i + 2 * (4 + d), y);
 }
 
 // For each instance where its eight factors are.
-fn fill_sites(
-    s: &[u8],
-    w: usize,
-    t: &[u16],
-    inst: &[u16],
-    el: &[u16],
-    insts: usize,
-    sites: &mut [u16],
-)
-    requires { SitesRequires (recipe_at w s.now) t.now inst.now el.now × ((insts ≡ length (instances (recipe_at w s.now))) × SitesTo (recipe_at w s.now) sites.old 1) }
-    ensures { Sited (recipe_at w s.now) sites.new }
+fn fill_sites(c: &Composition, sites: &mut [u16])
+    requires { SitesTo (recipe c.now.tree.source.now) sites.old 1 }
+    ensures { Sited (recipe c.now.tree.source.now) sites.new }
 {
-    let mut i = 1;
-    while i < insts {
-        fill_row(s, w, t, inst, el, i, sites);
-        i += 1;
+    for i in 1..c.tree.size.insts {
+        fill_row(c, i, sites);
     }
 }
 
 // Writes the eight fields of the factors of instance i.
-fn put_factors(s: &[u8], w: usize, pre: &[u8], len: &[u16], sites: &[u16], i: usize, row: &mut [u8])
-    requires { RowRequires (recipe_at w s.now) pre.now len.now sites.now row.old i }
-    ensures { RowFor (recipe_at w s.now) i row.new }
+fn put_factors(prefixes: &Prefixes, sites: &[u16], i: usize, row: &mut [u8])
+    requires { RowRequires (recipe prefixes.now.source.now) sites.now row.old i }
+    ensures { RowFor (recipe prefixes.now.source.now) i row.new }
 {
-    let f = composer::field_width(w);
-    let mut j = 0;
-    let mut at = 0usize;
-    while j < 8 {
-        let u = cell(sites, 16 * i + 2 * j, 0);
-        let m = cell(sites, 16 * i + 2 * j, 1);
-        composer::put_field(s, w, pre, len, u, m, row, at);
-        at += f;
-        j += 1;
+    let f = composer::field_width(prefixes.source.width);
+    for j in 0..8usize {
+        let site = site_in(sites, 16 * i + 2 * j);
+        composer::put_field(prefixes, site, row, j * f);
     }
 }
 
-// The same, where the row has those of the instance `kept` already.
-fn keep_factors(
-    s: &[u8],
-    w: usize,
-    pre: &[u8],
-    len: &[u16],
-    sites: &[u16],
-    i: usize,
-    kept: usize,
-    row: &mut [u8],
-)
-    requires { RowRequires (recipe_at w s.now) pre.now len.now sites.now row.old i × (kept ≡ i → RowFor (recipe_at w s.now) kept row.old) }
-    ensures { RowFor (recipe_at w s.now) i row.new }
+// The same, where the row has those of the instance `kept` already, if any.
+fn keep_factors(prefixes: &Prefixes, sites: &[u16], i: usize, kept: Option<usize>, row: &mut [u8])
+    requires { let s = recipe prefixes.now.source.now in RowRequires s sites.now row.old i × IfSome kept (λ k. RowFor s k row.old) }
+    ensures { RowFor (recipe prefixes.now.source.now) i row.new }
 {
-    if i == kept {
+    if kept == Some(i) {
         return;
     }
-    put_factors(s, w, pre, len, sites, i, row);
+    put_factors(prefixes, sites, i, row);
 }
 
 // Writes the companion: the entry of each survivor of class 4 or 6, in tree order. The elements of an instance stand together, so that its factors are written out once.
-fn write_companion(
-    s: &[u8],
-    w: usize,
-    el: &[u16],
-    elems: usize,
-    pre: &[u8],
-    len: &[u16],
-    sites: &[u16],
-    out: &mut [u8],
-)
-    requires { CompanionRequires (recipe_at w s.now) el.now pre.now len.now sites.now elems × (entry_length w * length (rated (recipe_at w s.now)) ≤ length out.old) }
-    ensures { out.new ≡ companion (recipe_at w s.now) ++ drop (length (companion (recipe_at w s.now))) out.old }
+fn write_companion(c: &Composition, prefixes: &Prefixes, sites: &[u16], out: &mut [u8])
+    requires { let s = recipe c.now.tree.source.now in (recipe prefixes.now.source.now ≡ s) × (Sited s sites.now × (entry_length s.width * length (rated s) ≤ length out.old)) }
+    ensures { let s = recipe c.now.tree.source.now in out.new ≡ companion s ++ drop (length (companion s)) out.old }
 {
+    let w = c.tree.source.width;
     let f = composer::field_width(w);
     let n = entry_width(w);
     let mut row = [0u8; ROW_BYTES];
-    let mut kept = NO_INSTANCE;
-    let mut e = 0;
+    let mut kept = None;
     let mut p = 0usize;
-    while e < elems {
-        if is_entry(s, w, el, e) {
-            let q = cell(el, 5 * e, RECORD);
-            let i = cell(el, 5 * e, INSTANCE);
-            keep_factors(s, w, pre, len, sites, i, kept, &mut row);
-            kept = i;
-            out[p] = 8;
-            flat_names::put_name(s, w, pre, len, i, q, out, p + 1);
-            names::put_bytes(&row, 0, 8 * f, out, p + 1 + f);
-            p += n;
-            e += 1;
-        } else {
-            e += 1;
+    for e in Survivors::of(c) {
+        if !is_rated(c, e) {
+            continue;
         }
+        let x = Site::of(c.elements, e);
+        keep_factors(prefixes, sites, x.inst, kept, &mut row);
+        kept = Some(x.inst);
+        out[p] = 8;
+        prefixes.put_name(x.inst, x.place, out, p + 1);
+        names::put_bytes(&row, 0, 8 * f, out, p + 1 + f);
+        p += n;
     }
 }
 
@@ -243,49 +186,40 @@ impl From<Refusal> for FactorsAnswer {
     }
 }
 
-// The prefixes of a recipe that no row refuses, once for both tables, and these.
-fn write_both(
-    s: &[u8],
-    w: usize,
-    t: &[u16],
-    inst: &[u16],
-    el: &[u16],
-    n: Size,
-    table: &mut [u8],
-    entries: &mut [u8],
-)
-    requires { Composed (recipe_at w s.now) t.now inst.now el.now n.insts n.elems × ((flat_length w * length (survivors (recipe_at w s.now)) ≤ length table.old) × (entry_length w * length (rated (recipe_at w s.now)) ≤ length entries.old)) }
-    ensures { (table.new ≡ flat (recipe_at w s.now) ++ drop (length (flat (recipe_at w s.now))) table.old) × (entries.new ≡ companion (recipe_at w s.now) ++ drop (length (companion (recipe_at w s.now))) entries.old) }
+// The prefixes, once for both tables, and these.
+fn write_both(c: &Composition, table: &mut [u8], entries: &mut [u8])
+    requires { let s = recipe c.now.tree.source.now in (flat_length s.width * length (survivors s) ≤ length table.old) × (entry_length s.width * length (rated s) ≤ length entries.old) }
+    ensures { let s = recipe c.now.tree.source.now in (table.new ≡ flat s ++ drop (length (flat s)) table.old) × (entries.new ≡ companion s ++ drop (length (companion s)) entries.old) }
 {
-    let mut pre = [0u8; flat_names::PREFIX_BYTES];
-    let mut len = [0u16; flat_names::PREFIX_ROWS];
+    let mut bytes = [0u8; flat_names::PREFIX_BYTES];
+    let mut lengths = [0u16; flat_names::PREFIX_ROWS];
     let mut sites = [0u16; SITE_CELLS];
-    flat_names::fill_prefixes(s, w, t, inst, n.insts, &mut pre, &mut len);
-    composer::write_table(s, w, t, el, n.elems, &pre, &len, table);
-    fill_sites(s, w, t, inst, el, n.insts, &mut sites);
-    write_companion(s, w, el, n.elems, &pre, &len, &sites, entries);
+    let tree = c.tree;
+    let prefixes = Prefixes::fill(
+        tree.source,
+        tree.shadow,
+        tree.instances,
+        tree.size.insts,
+        &mut bytes,
+        &mut lengths,
+    );
+    composer::write_table(c, &prefixes, table);
+    fill_sites(c, &mut sites);
+    write_companion(c, &prefixes, &sites, entries);
 }
 
 // Row 13, of a recipe that no other row refuses; where it does not apply, both tables.
-fn flatten_composed(
-    s: &[u8],
-    w: usize,
-    t: &[u16],
-    inst: &[u16],
-    el: &[u16],
-    n: Size,
-    table: &mut [u8],
-    entries: &mut [u8],
-) -> FactorsAnswer
-    requires { Composed (recipe_at w s.now) t.now inst.now el.now n.insts n.elems × Unrefused (recipe_at w s.now) }
-    ensures { (result ≡ factors_verdict (recipe_at w s.now) (length table.old) (length entries.old)) × ((table.new ≡ table_after (recipe_at w s.now) table.old (length entries.old)) × (entries.new ≡ companion_after (recipe_at w s.now) (length table.old) entries.old)) }
+fn flatten_composed(c: &Composition, table: &mut [u8], entries: &mut [u8]) -> FactorsAnswer
+    requires { Unrefused (recipe c.now.tree.source.now) }
+    ensures { let s = recipe c.now.tree.source.now in (result ≡ factors_verdict s (length table.old) (length entries.old)) × ((table.new ≡ table_after s table.old (length entries.old)) × (entries.new ≡ companion_after s (length table.old) entries.old)) }
 {
     let no_room = Refusal {
         reason: Reason::NoRoom,
         place: 0,
     };
-    let count = composer::count_survivors(s, w, el, n.elems);
-    let k = count_entries(s, w, el, n.elems);
+    let w = c.tree.source.width;
+    let count = composer::count_survivors(c);
+    let k = count_entries(c);
     let bytes = count * composer::record_width(w);
     if table.len() < bytes {
         return FactorsAnswer::from(no_room);
@@ -293,7 +227,7 @@ fn flatten_composed(
     if entries.len() < k * entry_width(w) {
         return FactorsAnswer::from(no_room);
     }
-    write_both(s, w, t, inst, el, n, table, entries);
+    write_both(c, table, entries);
     FactorsAnswer {
         number: 0,
         place: 0,
@@ -311,20 +245,9 @@ pub fn bandrolt_flatten_with_factors(
 ) -> FactorsAnswer
     ensures { (result ≡ factors_verdict (recipe_of recipe.now) (length table.old) (length companion.old)) × ((table.new ≡ table_after (recipe_of recipe.now) table.old (length companion.old)) × (companion.new ≡ companion_after (recipe_of recipe.now) (length table.old) companion.old)) }
 {
-    let mut t = [0u16; compose::SHADOW_CELLS];
-    let mut inst = [0u16; compose::INSTANCE_CELLS];
-    let mut el = [0u16; compose::ELEMENT_CELLS];
-    match compose::compose(recipe, composer::NAME_WIDTH, &mut t, &mut inst, &mut el) {
+    let mut rooms = Rooms::new();
+    match compose::compose(&composer::source(recipe), &mut rooms) {
         Err(refusal) => FactorsAnswer::from(refusal),
-        Ok(n) => flatten_composed(
-            recipe,
-            composer::NAME_WIDTH,
-            &t,
-            &inst,
-            &el,
-            n,
-            table,
-            companion,
-        ),
+        Ok(c) => flatten_composed(&c.with_source(&composer::source(recipe)), table, companion),
     }
 }

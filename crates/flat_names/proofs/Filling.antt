@@ -51,12 +51,6 @@ row-copied pre from l to h room =
     let n : from + l - from ≡ l = add-sub_cancel_left from l in
     pasted pre (drop from pre) to (from + l - from) (omega arith) (omega (arith, length-drop from pre)) ∙ ap (λ (j : ℕ). sets pre to (take j (drop from pre))) n
 
-pub within-one : {t : List ℕ} {a at : ℕ} {out : List ℕ} {k : ℕ} → Copied t a t at out k → a + k < at → a + k < length t
-    → Copied t a t at (set out (at + k) (get_or out (a + k) 0)) (k + 1)
-within-one {t} {a} {at} {out} {k} z h l =
-    let e : get_or out (a + k) 0 ≡ get_or t (a + k) 0 = ap (λ (y : List ℕ). get_or y (a + k) 0) z.is ∙ get_or-before (take k (drop a t)) t at (a + k) h in
-    rw e (copied-one z l)
-
 part_length : (a n : ℕ) (l : List ℕ) → a + n ≤ length l → length (take n (drop a l)) ≡ n
 part_length a n l h = length-take-le n (drop a l) (omega (arith, length-drop a l))
 
@@ -134,9 +128,6 @@ module _ {s : Recipe} {t inst : List ℕ} {n : ℕ} (x : Planted s t inst n) whe
         long = refl;
         lens = refl;
       }
-
-  pub rowed-end : {pre₀ len₀ pre len : List ℕ} {i : ℕ} → Rowed s pre₀ len₀ pre len n i → n ≤ i → Prefixed s pre len
-  rowed-end {pre₀} {len₀} {pre} {len} {i} g h = let z : i ≡ length (instances s) = omega (arith, x.rows.count, g.below) in rw z at g.rows
 
   pub around-low : {i u : ℕ} → i < n → 0 < i → u ≡ get_or inst (6 * i + 4) 0 → u < i
   around-low {i} low pos e = omega (arith, x.rows.below i low pos)

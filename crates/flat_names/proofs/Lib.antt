@@ -1,5 +1,5 @@
 -- The laws of prefixes and flat names: their lengths, that no two elements of the tree have one, and what writes them.
-pub mod Prefixes
+pub mod Fewest
 pub mod Apart
 pub mod OneName
 pub mod Lengths

@@ -21,7 +21,7 @@ use Rattle.tree.proofs.Nodes.{in_tree, node-eq}
 use Rattle.tree.proofs.Instances.{instance-path}
 use Rattle.tree.proofs.Targets.{Walk, walk_of}
 use Rattle.flat_names.specs.Prefixes.{declared_names, names_around, with_underscores, is_taken, fewest, prefix, flat_name}
-use Rattle.flat_names.proofs.Prefixes.{Short, short, Count, fewest-count}
+use Rattle.flat_names.proofs.Fewest.{Short, short, Count, fewest-count}
 use Rattle.flat_names.proofs.Apart.{same_name, Apart, one_name}
 
 module _ (s : Recipe) where

@@ -19,7 +19,7 @@ use Rattle.names.proofs.Lists.{while-on, while-off, take_while, begins-append, b
 use Rattle.names.proofs.Runs.{run_length}
 use Rattle.flat_names.specs.Prefixes.{with_underscores, is_taken}
 use Rattle.flat_names.specs.Underscores.{run_first, run_behind, raised, raises, last_try}
-use Rattle.flat_names.proofs.Prefixes.{Short, Count}
+use Rattle.flat_names.proofs.Fewest.{Short, Count}
 
 -- ---- underscores at the beginning of a list
 first-most : (k : ℕ) (x : List ℕ) → begins (replicate k underscore) x ≡ true → k ≤ run_first x

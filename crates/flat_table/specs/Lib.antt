@@ -2,3 +2,4 @@
 pub mod Classes
 pub mod Table
 pub mod Rows
+pub mod InTable

@@ -1,17 +1,16 @@
 -- The search for what a definition reaches: marks and queue as they grow, and what they say when all is expanded.
 -- Assumes nothing.
 use mathlib.Core.Path.{◌≡◌, refl, sym, ap, ◌∙◌}
-use Prim.Native.Nat.{ℕ, zero, suc, ◌+◌, ◌*◌, ◌/◌, ◌≤◌, ◌<◌}
+use Prim.Native.Nat.{ℕ, zero, suc, ◌+◌, ◌/◌, ◌≤◌, ◌<◌}
 use native.Mathlib.Omega.{arith}
-use native.Mathlib.Nat.{mul-suc}
+use mathlib.Core.Bool.{Bool, true, false}
 use mathlib.Core.List.{List, [], ◌∷◌}
 use lib.ListN.{length, get_or, set, replicate, length-set, length-replicate}
 use lib.Seq.{get_or-set_same, get_or-set_other}
 use lib.Dec.{eqb, ltb}
-use borrow.Author.Tests.{eqb-true, eqb-false, eq-eqb, ltb-true, ltb-false}
+use borrow.Author.Tests.{eqb-true, eqb-false, ltb-true, ltb-false}
 use Rattle.names.specs.Lists.{In}
-use Rattle.names.proofs.Tests.{by_cases, three, both_ways}
-use Rattle.names.proofs.Tables.{get_or-zeros}
+use Rattle.names.proofs.Tests.{by_cases, not-both, three, both_ways}
 use Rattle.recipe.specs.Records.{Recipe}
 use Rattle.recipe.specs.Definitions.{definitions, model_of, submodels}
 use Rattle.recipe.specs.Reaching.{Reach, direct, onward, reaches}
@@ -20,45 +19,40 @@ use Rattle.recipe.proofs.Reaching.{plain-reaches, reaches-plain, reach-in, reach
 use Rattle.recipe.proofs.Spans.{definition-place}
 use Rattle.shadow.specs.Columns.{Linked}
 use Rattle.shadow.proofs.Cells.{apart}
-use Rattle.heights.specs.Search.{sum, IsMarked, Marks, Marked, ModelBelow}
+use Rattle.heights.specs.Search.{many, IsMarked, Marks, Marked, ModelBelow}
 use Rattle.heights.proofs.Along.{Through, submodel-model, through-on, through-one}
 
--- ---- sums
-sum-set : (xs : List ℕ) (i v : ℕ) → i < length xs → sum (set xs i v) + get_or xs i 0 ≡ sum xs + v
-sum-set [] i v h = absurd (omega arith)
-sum-set (x ∷ xs) zero v h = omega arith
-sum-set (x ∷ xs) (suc i) v h = omega (arith, sum-set xs i v (omega arith))
+-- ---- how many are marked
+many-set : (bs : List Bool) (i : ℕ) → i < length bs → get_or bs i false ≡ false → many (set bs i true) ≡ many bs + 1
+many-set [] i h n = absurd (omega arith)
+many-set (b ∷ bs) zero h n = rw n (omega arith)
+many-set (b ∷ bs) (suc i) h n = omega (arith, many-set bs i (omega arith) n)
 
-sum_low : (xs : List ℕ) (k : ℕ) → ((i : ℕ) → get_or xs i 0 ≤ k) → sum xs ≤ k * length xs
-sum_low [] k h = omega arith
-sum_low (x ∷ xs) k h = rw mul-suc (omega (arith, h 0, sum_low xs k (λ i. h (suc i))))
+many_low : (bs : List Bool) → many bs ≤ length bs
+many_low [] = omega arith
+many_low (true ∷ bs) = omega (arith, many_low bs)
+many_low (false ∷ bs) = omega (arith, many_low bs)
 
 -- ---- one more mark
-module _ {mark queue : List ℕ} {tail : ℕ} (r : Marks mark queue tail) where
+module _ {mark : List Bool} {queue : List ℕ} {tail : ℕ} (r : Marks mark queue tail) where
   pub tail-low : tail ≤ 1261
-  tail-low = omega (arith, r.counted, r.marks, sum_low mark 1 r.low)
+  tail-low = omega (arith, r.counted, r.marks, many_low mark)
 
   pub marked-none : (P : ℕ → Type 0) → Marked P mark queue tail mark queue tail
   marked-none P = record { right = r; more = omega arith; keeps = λ j k. k; same = λ i l. refl; new = λ i l u. absurd (omega arith) }
 
-  module _ (e : ℕ) (h : e < 16384) (n : IsMarked mark e → ⊥) where
-    set_there : IsMarked (set mark (e / 13) 1) e
-    set_there = get_or-set_same mark (e / 13) 1 0 (omega (arith, r.marks))
+  module _ (e : ℕ) (h : e < 16384) (n : get_or mark (e / 13) false ≡ false) where
+    set_there : IsMarked (set mark (e / 13) true) e
+    set_there = get_or-set_same mark (e / 13) true false (omega (arith, r.marks))
 
-    low-set : (j : ℕ) → get_or (set mark (e / 13) 1) j 0 ≤ 1
-    low-set j =
-        by_cases (eqb j (e / 13))
-        (λ b. rw (eqb-true j (e / 13) b) (omega (arith, set_there)))
-        (λ b. rw (get_or-set_other mark (e / 13) j 1 0 (eqb-false j (e / 13) b)) (r.low j))
-
-    sum_more : sum (set mark (e / 13) 1) ≡ tail + 1
-    sum_more = omega (arith, sum-set mark (e / 13) 1 (omega (arith, r.marks)), r.low (e / 13), r.counted)
+    many_more : many (set mark (e / 13) true) ≡ tail + 1
+    many_more = omega (arith, many-set mark (e / 13) (omega (arith, r.marks)) n, r.counted)
 
     pub queue-room : tail < 1261
-    queue-room = omega (arith, sum_more, sum_low (set mark (e / 13) 1) 1 low-set, length-set mark (e / 13) 1, r.marks)
+    queue-room = omega (arith, many_more, many_low (set mark (e / 13) true), length-set mark (e / 13) true, r.marks)
 
-    set_keeps : (j : ℕ) → get_or mark j 0 ≡ 1 → get_or (set mark (e / 13) 1) j 0 ≡ 1
-    set_keeps j k = get_or-set_other mark (e / 13) j 1 0 (λ q. n (ap (λ (y : ℕ). get_or mark y 0) (sym q) ∙ k)) ∙ k
+    set_keeps : (j : ℕ) → get_or mark j false ≡ true → get_or (set mark (e / 13) true) j false ≡ true
+    set_keeps j k = get_or-set_other mark (e / 13) j true false (λ q. not-both (ap (λ (y : ℕ). get_or mark y false) (sym q) ∙ k) n) ∙ k
 
     queue-same : (i : ℕ) → i < tail → get_or (set queue tail e) i 0 ≡ get_or queue i 0
     queue-same i l = get_or-set_other queue tail i e 0 (λ q. omega (arith, q))
@@ -66,21 +60,20 @@ module _ {mark queue : List ℕ} {tail : ℕ} (r : Marks mark queue tail) where
     queue-new : get_or (set queue tail e) tail 0 ≡ e
     queue-new = get_or-set_same queue tail e 0 (omega (arith, queue-room, r.queues))
 
-    marks-one : Marks (set mark (e / 13) 1) (set queue tail e) (tail + 1)
+    marks-one : Marks (set mark (e / 13) true) (set queue tail e) (tail + 1)
     marks-one = record {
-      marks = length-set mark (e / 13) 1 ∙ r.marks;
+      marks = length-set mark (e / 13) true ∙ r.marks;
       queues = length-set queue tail e ∙ r.queues;
-      low = low-set;
-      counted = sym sum_more;
+      counted = sym many_more;
       queued = λ j k.
           by_cases (eqb j (e / 13))
           (λ b. (tail, omega arith, ap (λ (y : ℕ). y / 13) queue-new ∙ sym (eqb-true j (e / 13) b)))
           (λ b.
-          let z = r.queued j (sym (get_or-set_other mark (e / 13) j 1 0 (eqb-false j (e / 13) b)) ∙ k) in
+          let z = r.queued j (sym (get_or-set_other mark (e / 13) j true false (eqb-false j (e / 13) b)) ∙ k) in
           (z.0, omega (arith, z.1), ap (λ (y : ℕ). y / 13) (queue-same z.0 z.1) ∙ z.2));
     }
 
-    pub marked-one : Marked (λ x. x ≡ e) mark queue tail (set mark (e / 13) 1) (set queue tail e) (tail + 1) × IsMarked (set mark (e / 13) 1) e
+    pub marked-one : Marked (λ x. x ≡ e) mark queue tail (set mark (e / 13) true) (set queue tail e) (tail + 1) × IsMarked (set mark (e / 13) true) e
     marked-one = (
       record {
         right = marks-one;
@@ -93,18 +86,18 @@ module _ {mark queue : List ℕ} {tail : ℕ} (r : Marks mark queue tail) where
     )
 
 -- ---- the models of the submodels of d are marked, but for those left
-abbrev pub ModelMarked : Recipe → List ℕ → ℕ → Type 0
+abbrev pub ModelMarked : Recipe → List Bool → ℕ → Type 0
 ModelMarked s mark m = IsMarked mark (model_of s m)
 
-pub record ExpandLoop (s : Recipe) (d : ℕ) (mark₀ queue₀ : List ℕ) (tail₀ : ℕ) (mark queue : List ℕ) (tail : ℕ) (rs : List ℕ) : Type 0 where
+pub record ExpandLoop (s : Recipe) (d : ℕ) (mark₀ : List Bool) (queue₀ : List ℕ) (tail₀ : ℕ) (mark : List Bool) (queue : List ℕ) (tail : ℕ) (rs : List ℕ) : Type 0 where
   pub marked : Marked (ModelBelow s d) mark₀ queue₀ tail₀ mark queue tail
   pub through : Through (submodels s d) (ModelMarked s mark) rs
 
-module _ {s : Recipe} {d : ℕ} {mark₀ queue₀ : List ℕ} {tail₀ : ℕ} where
-  module _ {mark queue rs : List ℕ} {tail : ℕ} (u : ExpandLoop s d mark₀ queue₀ tail₀ mark queue tail rs) where
-    pub expand-on : {t mark' queue' ts : List ℕ} {tail' e p : ℕ} → Linked s t → rs ≡ p ∷ ts → e ≡ get_or t (p + 3) 0
+module _ {s : Recipe} {d : ℕ} {mark₀ : List Bool} {queue₀ : List ℕ} {tail₀ : ℕ} where
+  module _ {mark : List Bool} {queue rs : List ℕ} {tail : ℕ} (u : ExpandLoop s d mark₀ queue₀ tail₀ mark queue tail rs) where
+    pub expand-on : {t queue' ts : List ℕ} {mark' : List Bool} {tail' e p : ℕ} → Linked s t → rs ≡ p ∷ ts → e ≡ get_or t (p + 3) 0
         → Marked (λ x. x ≡ e) mark queue tail mark' queue' tail' × IsMarked mark' e → ExpandLoop s d mark₀ queue₀ tail₀ mark' queue' tail' ts
-    expand-on {t} {mark'} {queue'} {ts} {tail'} {e} {p} g h q a =
+    expand-on {mark' = mark'} {e = e} {p = p} g h q a =
         let v = u.marked in
         let w = a.0 in
         let i = through-one u.through h in
@@ -124,21 +117,25 @@ module _ {s : Recipe} {d : ℕ} {mark₀ queue₀ : List ℕ} {tail₀ : ℕ} wh
         }
 
 -- ---- the search
-sum_zeros : (n : ℕ) → sum (replicate n 0) ≡ 0
-sum_zeros zero = refl
-sum_zeros (suc n) = omega (arith, sum_zeros n)
+many_none : (n : ℕ) → many (replicate n false) ≡ 0
+many_none zero = refl
+many_none (suc n) = omega (arith, many_none n)
 
-pub marks-start : Marks (replicate 1261 0) (replicate 1261 0) 0
+no-mark : (n j : ℕ) → get_or (replicate n false) j false ≡ false
+no-mark zero j = refl
+no-mark (suc n) zero = refl
+no-mark (suc n) (suc j) = no-mark n j
+
+pub marks-start : Marks (replicate 1261 false) (replicate 1261 0) 0
 marks-start = record {
-  marks = length-replicate {A = ℕ} 1261 0;
+  marks = length-replicate {A = Bool} 1261 false;
   queues = length-replicate {A = ℕ} 1261 0;
-  low = λ j. omega (arith, get_or-zeros 1261 j);
-  counted = sym (sum_zeros 1261);
-  queued = λ j e. absurd (omega (arith, get_or-zeros 1261 j, e));
+  counted = sym (many_none 1261);
+  queued = λ j e. not-both e (no-mark 1261 j);
 }
 
 -- what is queued is reached from d; what stands below d, and below the first `head` of the queue, is marked
-pub record SearchLoop (s : Recipe) (d : ℕ) (mark queue : List ℕ) (tail head : ℕ) : Type 0 where
+pub record SearchLoop (s : Recipe) (d : ℕ) (mark : List Bool) (queue : List ℕ) (tail head : ℕ) : Type 0 where
   pub right : Marks mark queue tail
   pub sound : (i : ℕ) → i < tail → Reach s d (get_or queue i 0)
   pub own : (x : ℕ) → ModelBelow s d x → IsMarked mark x
@@ -153,7 +150,7 @@ mark-own {s} g d e i j q =
     three d e (λ u. absurd (omega (arith, apart c d e k l u))) (λ u. u) (λ u. absurd (omega (arith, apart c e d l k u)))
 
 module _ {s : Recipe} {d : ℕ} where
-  pub search-start : {mark₀ queue₀ mark queue : List ℕ} {tail : ℕ} → Marked (ModelBelow s d) mark₀ queue₀ 0 mark queue tail × ((x : ℕ) → ModelBelow s d x → IsMarked mark x) → SearchLoop s d mark queue tail 0
+  pub search-start : {mark₀ mark : List Bool} {queue₀ queue : List ℕ} {tail : ℕ} → Marked (ModelBelow s d) mark₀ queue₀ 0 mark queue tail × ((x : ℕ) → ModelBelow s d x → IsMarked mark x) → SearchLoop s d mark queue tail 0
   search-start v = record {
     right = v.0.right;
     sound = λ i l. let b = v.0.new i (omega arith) l in direct b.0 b.1 b.2;
@@ -161,12 +158,12 @@ module _ {s : Recipe} {d : ℕ} where
     done = λ i l. absurd (omega arith);
   }
 
-  module _ {mark queue : List ℕ} {tail head : ℕ} (f : SearchLoop s d mark queue tail head) where
+  module _ {mark : List Bool} {queue : List ℕ} {tail head : ℕ} (f : SearchLoop s d mark queue tail head) where
     module _ (l : head < tail) where
       pub head_in : In (get_or queue head 0) (definitions s)
       head_in = reach-in s (f.sound head l)
 
-      pub search-more : {mark' queue' : List ℕ} {tail' e : ℕ} → e ≡ get_or queue head 0 → Marked (ModelBelow s e) mark queue tail mark' queue' tail' × ((x : ℕ) → ModelBelow s e x → IsMarked mark' x)
+      pub search-more : {mark' : List Bool} {queue' : List ℕ} {tail' e : ℕ} → e ≡ get_or queue head 0 → Marked (ModelBelow s e) mark queue tail mark' queue' tail' × ((x : ℕ) → ModelBelow s e x → IsMarked mark' x)
           → SearchLoop s d mark' queue' tail' (head + 1)
       search-more {mark'} {queue'} {tail'} {e} q v = record {
         right = v.0.right;
@@ -198,10 +195,10 @@ module _ {s : Recipe} {d : ℕ} where
           let z = queued-at (model_of s m) (model_in s a m i) (o (model_of s m) (m, i, refl)) in
           complete r (λ x b. f.done z.0 (omega (arith, z.1)) x (rw z.2 b))
 
-      pub search-end : In d (definitions s) → eqb (get_or mark (d / 13) 0) 1 ≡ reaches s d d
+      pub search-end : In d (definitions s) → get_or mark (d / 13) false ≡ reaches s d d
       search-end o =
           both_ways
           (λ e.
-          let z = queued-at d o (eqb-true (get_or mark (d / 13) 0) 1 e) in
+          let z = queued-at d o e in
           plain-reaches s d d (rw z.2 at (f.sound z.0 z.1)))
-          (λ e. eq-eqb (get_or mark (d / 13) 0) 1 (complete (reaches-plain s d d e) f.own))
+          (λ e. complete (reaches-plain s d d e) f.own)

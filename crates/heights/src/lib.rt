@@ -4,7 +4,7 @@
 
 ghost use Rattle.std.specs.Prelude.{◌≡◌, [], ◌∷◌, ℕ, ◌<◌, length, MatchResult};
 ghost use Rattle.names.specs.Lists.{In};
-ghost use Rattle.recipe.specs.Records.{recipe_at};
+ghost use Rattle.recipe.specs.Records.{recipe};
 ghost use Rattle.recipe.specs.Definitions.{definitions};
 ghost use Rattle.recipe.specs.Reaching.{reaches};
 ghost use Rattle.recipe.specs.Reading.{fault₆};
@@ -13,7 +13,7 @@ ghost use Rattle.shadow.specs.Columns.{Linked, Paired, Heights, Measured};
 ghost use Rattle.heights.specs.Search.{IsMarked, Marks, Marked, ModelBelow};
 ghost use Rattle.heights.specs.Heights.{Grows, IsCyclic, SettleFromRequires};
 
-use recipe::Records;
+use recipe::{Kind, Records, Source};
 use shadow::{SubmodelsOf, cell, set_cell};
 
 // No record is shorter: a definition's place divided by it is a number of its own, and less than MOST_DEFINITIONS.
@@ -31,63 +31,62 @@ const IN_PROGRESS: usize = 65535;
 struct Cyclic;
 
 // Marks and queues e, where it is not marked yet, and answers the queue's new end.
-fn enqueue(mark: &mut [u8], queue: &mut [u16], tail: usize, e: usize) -> usize
+fn enqueue(mark: &mut [bool], queue: &mut [u16], tail: usize, e: usize) -> usize
     requires { Marks mark.old queue.old tail × (e < 16384) }
     ensures { Marked (λ x. x ≡ e) mark.old queue.old tail mark.new queue.new result × IsMarked mark.new e }
 {
     let i = e / LEAST_RECORD;
-    if mark[i] == 1 {
+    if mark[i] {
         return tail;
     }
-    mark[i] = 1;
+    mark[i] = true;
     queue[tail] = e as u16;
     tail + 1
 }
 
 // Marks and queues the models of the submodels of definition e, and answers the queue's new end.
 fn expand(
-    s: &[u8],
-    w: usize,
+    s: &Source,
     t: &[u16],
-    mark: &mut [u8],
+    mark: &mut [bool],
     queue: &mut [u16],
     tail: usize,
     e: usize,
 ) -> usize
-    requires { Linked (recipe_at w s.now) t.now × In e (definitions (recipe_at w s.now)) × Marks mark.old queue.old tail }
-    ensures { Marked (ModelBelow (recipe_at w s.now) e) mark.old queue.old tail mark.new queue.new result × ((x : ℕ) → ModelBelow (recipe_at w s.now) e x → IsMarked mark.new x) }
+    requires { Linked (recipe s.now) t.now × In e (definitions (recipe s.now)) × Marks mark.old queue.old tail }
+    ensures { Marked (ModelBelow (recipe s.now) e) mark.old queue.old tail mark.new queue.new result × ((x : ℕ) → ModelBelow (recipe s.now) e x → IsMarked mark.new x) }
 {
     let mut end = tail;
-    for p in SubmodelsOf::definition(s, w, e) {
+    for p in SubmodelsOf::definition(s, e) {
         end = enqueue(mark, queue, end, cell(t, p, shadow::MODEL));
     }
     end
 }
 
 // Whether definition d reaches itself: what it reaches is marked, and expanded in turn.
-fn reaches_itself(s: &[u8], w: usize, t: &[u16], d: usize) -> bool
-    requires { Linked (recipe_at w s.now) t.now × In d (definitions (recipe_at w s.now)) }
-    ensures { result ≡ reaches (recipe_at w s.now) d d }
+fn reaches_itself(s: &Source, t: &[u16], d: usize) -> bool
+    requires { Linked (recipe s.now) t.now × In d (definitions (recipe s.now)) }
+    ensures { result ≡ reaches (recipe s.now) d d }
 {
-    let mut mark = [0u8; MOST_DEFINITIONS];
+    let mut mark = [false; MOST_DEFINITIONS];
     let mut queue = [0u16; MOST_DEFINITIONS];
-    let mut tail = expand(s, w, t, &mut mark, &mut queue, 0, d);
+    let mut tail = expand(s, t, &mut mark, &mut queue, 0, d);
     let mut head = 0;
     while head < tail {
         let e = recipe::wide(queue[head]);
-        tail = expand(s, w, t, &mut mark, &mut queue, tail, e);
+        tail = expand(s, t, &mut mark, &mut queue, tail, e);
         head += 1;
     }
-    mark[d / LEAST_RECORD] == 1
+    mark[d / LEAST_RECORD]
 }
 
 // The lowest definition that reaches itself.
-fn first_cycle(s: &[u8], w: usize, t: &[u16]) -> Option<usize>
-    requires { Linked (recipe_at w s.now) t.now }
-    ensures { result ≡ fault₆ (recipe_at w s.now) }
+fn first_cycle(s: &Source, t: &[u16]) -> Option<usize>
+    requires { Linked (recipe s.now) t.now }
+    ensures { result ≡ fault₆ (recipe s.now) }
 {
-    for p in Records::of(s, w) {
-        if s[p] == 1 && reaches_itself(s, w, t, p) {
+    for p in Records::of(s) {
+        if s.bytes[p] == Kind::Model as u8 && reaches_itself(s, t, p) {
             return Some(p);
         }
     }
@@ -95,9 +94,9 @@ fn first_cycle(s: &[u8], w: usize, t: &[u16]) -> Option<usize>
 }
 
 // The height of definition d, which is settled with all that it reaches.
-fn settle_from(s: &[u8], w: usize, t: &mut [u16], d: usize) -> Result<usize, Cyclic>
-    requires { SettleFromRequires (recipe_at w s.now) t.old d }
-    ensures { Kept (recipe_at w s.now) (6 ∷ []) t.old t.new × MatchResult result (Grows (recipe_at w s.now) t.old t.new d) (λ _. IsCyclic (recipe_at w s.now)) }
+fn settle_from(s: &Source, t: &mut [u16], d: usize) -> Result<usize, Cyclic>
+    requires { SettleFromRequires (recipe s.now) t.old d }
+    ensures { Kept (recipe s.now) (6 ∷ []) t.old t.new × MatchResult result (Grows (recipe s.now) t.old t.new d) (λ _. IsCyclic (recipe s.now)) }
 {
     let seen = cell(t, d, shadow::HEIGHT);
     if seen == IN_PROGRESS {
@@ -108,9 +107,9 @@ fn settle_from(s: &[u8], w: usize, t: &mut [u16], d: usize) -> Result<usize, Cyc
     }
     set_cell(t, d, shadow::HEIGHT, IN_PROGRESS);
     let mut below = 0;
-    for p in SubmodelsOf::definition(s, w, d) {
+    for p in SubmodelsOf::definition(s, d) {
         let e = cell(t, p, shadow::MODEL);
-        below = below.max(settle_from(s, w, t, e)?);
+        below = below.max(settle_from(s, t, e)?);
     }
     let height = below + 1;
     set_cell(t, d, shadow::HEIGHT, height);
@@ -118,25 +117,25 @@ fn settle_from(s: &[u8], w: usize, t: &mut [u16], d: usize) -> Result<usize, Cyc
 }
 
 // Settles the heights of all definitions, that of each record in turn.
-fn settle(s: &[u8], w: usize, t: &mut [u16]) -> Result<(), Cyclic>
-    requires { Linked (recipe_at w s.now) t.old }
-    ensures { Kept (recipe_at w s.now) (6 ∷ []) t.old t.new × MatchResult result (λ _. Heights (recipe_at w s.now) t.new) (λ _. IsCyclic (recipe_at w s.now)) }
+fn settle(s: &Source, t: &mut [u16]) -> Result<(), Cyclic>
+    requires { Linked (recipe s.now) t.old }
+    ensures { Kept (recipe s.now) (6 ∷ []) t.old t.new × MatchResult result (λ _. Heights (recipe s.now) t.new) (λ _. IsCyclic (recipe s.now)) }
 {
-    shadow::clear_cells(s, w, t, shadow::HEIGHT);
-    for p in Records::of(s, w) {
+    shadow::clear_cells(s, t, shadow::HEIGHT);
+    for p in Records::of(s) {
         let d = cell(t, p, shadow::DEFINITION_OF);
-        settle_from(s, w, t, d)?;
+        settle_from(s, t, d)?;
     }
     Ok(())
 }
 
 // The lowest definition that reaches itself; where there is none, the shadow has each definition's height.
-pub fn find_heights(s: &[u8], w: usize, t: &mut [u16]) -> Option<usize>
-    requires { Linked (recipe_at w s.now) t.old × Paired (recipe_at w s.now) t.old }
-    ensures { (result ≡ fault₆ (recipe_at w s.now)) × (result ≡ None → Measured (recipe_at w s.now) t.new) × (length t.new ≡ length t.old) }
+pub fn find_heights(s: &Source, t: &mut [u16]) -> Option<usize>
+    requires { Linked (recipe s.now) t.old × Paired (recipe s.now) t.old }
+    ensures { (result ≡ fault₆ (recipe s.now)) × (result ≡ None → Measured (recipe s.now) t.new) × (length t.new ≡ length t.old) }
 {
-    match settle(s, w, t) {
+    match settle(s, t) {
         Ok(()) => None,
-        Err(Cyclic) => first_cycle(s, w, t),
+        Err(Cyclic) => first_cycle(s, t),
     }
 }

@@ -1,9 +1,9 @@
 -- What a port or mark names, by the cells of its submodel; the loops that fill the cells 3 to 5, and what they have filled.
 -- Assumes nothing.
-use Rattle.std.specs.Prelude.{None, Option, is_some, unwrap_or}
+use Rattle.std.specs.Prelude.{None, Option, Some, is_some, unwrap_or}
 use mathlib.Core.Path.{◌≡◌, refl, sym, ap, ◌∙◌}
 use mathlib.Core.Logic.{inl, ⊎_elim}
-use mathlib.Core.Bool.{Bool, true, false, cond, not, ◌||◌}
+use mathlib.Core.Bool.{true, false, cond, not, ◌||◌}
 use mathlib.Core.List.{List, [], ◌∷◌}
 use Prim.Native.Nat.{ℕ, ◌+◌, ◌≤◌, ◌<◌}
 use native.Mathlib.Omega.{arith}
@@ -12,7 +12,7 @@ use lib.Dec.{eqb}
 use borrow.Author.Tests.{eqb-true, eqb-false, leb-true, not-false}
 use Rattle.names.specs.Lists.{In, first}
 use Rattle.names.specs.Names.{text, is_blank, field_at}
-use Rattle.names.proofs.Tests.{by_cases, or_cases, or-none-left, not-both, is-some}
+use Rattle.names.proofs.Tests.{by_cases, or_cases, or-none-left, not-both, is-some, not_none, some-none, the-some}
 use Rattle.names.proofs.Lists.{none_first}
 use Rattle.recipe.specs.Records.{Recipe, kind, places, part_offset, submodel_part, pointer_kind, byte, submodel_offset, is_model, is_element, is_port, is_submodel, is_deletion, is_replacement, is_replaced_by, is_mark, is_factors, submodel_field, target_field, way}
 use Rattle.recipe.specs.Definitions.{holder, owner_of, submodels, submodel_named, model_of, submodel_of, named_by}
@@ -26,10 +26,9 @@ use Rattle.shadow.specs.Shadow.{Cell, Kept}
 use Rattle.shadow.specs.Columns.{Linked, Unpaired}
 use Rattle.shadow.proofs.Cells.{cell-over, RowWritten, row-none, row-set, row-left, row_room, Filling}
 use Rattle.shadow.proofs.Columns.{numbered-over}
-use Rattle.record_index.specs.declared.Answer.{Answer}
 use Rattle.links.specs.declared.Links.{Links}
-use Rattle.record_index.specs.Entries.{record_named, SoughtIn, answer_of}
-use Rattle.links.specs.Links.{is_pointing, upper_of, lower_of, own_of, links_of, Pointed}
+use Rattle.record_index.specs.Entries.{record_named, SoughtIn}
+use Rattle.links.specs.Links.{is_pointing, upper_of, lower_of, own_of, links, links_of, Pointed}
 use Rattle.record_index.proofs.Places.{place-room}
 use Rattle.record_index.proofs.Lookups.{element-look, port-look}
 use Rattle.links.proofs.Fields.{FieldAt, sought, target-at-field, way-reads, target-reads}
@@ -90,9 +89,9 @@ module _ (s : Recipe) (h₅ : fault₅ s ≡ None) (p : ℕ) (i : In p (places s
       omega (arith, place-room s m (definition-place s m (model_in s (holder s p) (submodel_of s p) submodel-in)).0)
 
   -- the answer of the look-up by its way
-  pub target-answered : fault₃ s ≡ None → {y d q : ℕ} → y ≡ way s p → d ≡ model_of s (submodel_of s p) → FieldAt s (target_field s p) q → {a : Answer}
-      → a ≡ answer_of (record_named s (2 + y) d (text (field_at s.width s.bytes q))) → a.place ≡ unwrap_or (named_by s p) 0
-  unfolding named_by answer_of is_way
+  pub target-answered : fault₃ s ≡ None → {y d q : ℕ} → y ≡ way s p → d ≡ model_of s (submodel_of s p) → FieldAt s (target_field s p) q → {a : Option ℕ}
+      → a ≡ record_named s (2 + y) d (text (field_at s.width s.bytes q)) → unwrap_or a 0 ≡ unwrap_or (named_by s p) 0
+  unfolding named_by is_way
   target-answered h₃ ey ed g e =
       by_cases (eqb (way s p) 0)
       (λ b.
@@ -167,9 +166,9 @@ module _ {s : Recipe} {t : List ℕ} (g : Pointed s t) (p : ℕ) (i : In p (plac
           sought target-field (target-reads s p i h₃ h) (omega arith) (omega (arith, way-low))
           (omega (arith, model_is, model-low s g.declared p i b g.numbered.shadowed.short))
 
-      pub target-written : {a : Answer} {v : ℕ} {t' : List ℕ}
-          → a ≡ answer_of (record_named s (2 + get_or s.bytes (p + 1 + (o + s.width)) 0) d (text (field_at s.width s.bytes (p + 1 + (o + s.width) + 1))))
-          → v ≡ a.place → t' ≡ set t (p + 5) v → t' ≡ cond (is_pointing s p) (set t (p + 5) (unwrap_or (named_by s p) 0)) t
+      pub target-written : {a : Option ℕ} {v : ℕ} {t' : List ℕ}
+          → a ≡ record_named s (2 + get_or s.bytes (p + 1 + (o + s.width)) 0) d (text (field_at s.width s.bytes (p + 1 + (o + s.width) + 1)))
+          → v ≡ unwrap_or a 0 → t' ≡ set t (p + 5) v → t' ≡ cond (is_pointing s p) (set t (p + 5) (unwrap_or (named_by s p) 0)) t
       target-written ea ev et = rw (et, b, ev ∙ target-answered s g.declared p i b h₃ way-byte model_is target-field ea)
 
 pub pointed-over : {s : Recipe} {t₀ t : List ℕ} → Kept s (5 ∷ []) t₀ t → Pointed s t₀ → Pointed s t
@@ -184,18 +183,26 @@ pointed-over o g = record {
 abbrev pub link_cell : Recipe → ℕ → ℕ → ℕ
 link_cell s k = cond (eqb k 3) (upper_of s) (cond (eqb k 4) (lower_of s) (own_of s))
 
-pub links-row : (s : Recipe) (p : ℕ) {t t₁ t₂ t₃ : List ℕ} {l : Links} {x y z : ℕ} → l ≡ links_of s p → p + 13 ≤ length t → t₁ ≡ set t (p + 3) x → x ≡ l.upper
-    → t₂ ≡ set t₁ (p + 4) y → y ≡ l.lower → t₃ ≡ set t₂ (p + 5) z → z ≡ l.own → RowWritten (5 ∷ 4 ∷ 3 ∷ []) (link_cell s) p t t₃
+pub links-none : (s : Recipe) (p : ℕ) {o : Option Links} → o ≡ links_of s p → o ≡ None → is_undeclared s p ≡ true
 unfolding links_of
+links-none s p e n =
+    by_cases (is_undeclared s p) (λ h. h)
+    (λ h. not_none {a = links (upper_of s p) (lower_of s p) (own_of s p)} (sym n ∙ (e ∙ rw h)))
+
+pub links-some : (s : Recipe) (p : ℕ) {o : Option Links} {l : Links} → o ≡ links_of s p → o ≡ Some l → (is_undeclared s p ≡ false) × (l ≡ links (upper_of s p) (lower_of s p) (own_of s p))
+unfolding links_of
+links-some s p {l = l} e n =
+    by_cases (is_undeclared s p)
+    (λ h. some-none {a = l} (sym n ∙ (e ∙ rw h)))
+    (λ h. (h, the-some (sym n ∙ (e ∙ rw h))))
+
+pub links-row : (s : Recipe) (p : ℕ) {t t₁ t₂ t₃ : List ℕ} {l : Links} {x y z : ℕ} → l ≡ links (upper_of s p) (lower_of s p) (own_of s p) → p + 13 ≤ length t → t₁ ≡ set t (p + 3) x → x ≡ l.upper
+    → t₂ ≡ set t₁ (p + 4) y → y ≡ l.lower → t₃ ≡ set t₂ (p + 5) z → z ≡ l.own → RowWritten (5 ∷ 4 ∷ 3 ∷ []) (link_cell s) p t t₃
 links-row s p {t} e h e₁ ex e₂ ey e₃ ez =
     rw (e₃, e₂, e₁)
     (row-set 5
     (row-set 4 (row-set 3 (row-none (link_cell s) p t) (omega arith) (ex ∙ ap (λ (x : Links). x.upper) e)) (omega arith) (ey ∙ ap (λ (x : Links). x.lower) e))
     (omega arith) (ez ∙ ap (λ (x : Links). x.own) e))
-
-pub links-fault : (s : Recipe) (p : ℕ) {l : Links} {z : Bool} → l ≡ links_of s p → l.undeclared ≡ z → is_undeclared s p ≡ z
-unfolding links_of
-links-fault s p e h = sym (ap (λ (x : Links). x.undeclared) e) ∙ h
 
 pub fault-five : (s : Recipe) {o : Option ℕ} → first (is_undeclared s) (places s) ≡ o → fault₅ s ≡ o
 unfolding fault₅

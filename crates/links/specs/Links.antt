@@ -1,9 +1,9 @@
--- What a record names, by the cells it is written to, and what is asked of a record over the index.
+-- What a record names, by the cells it is written to, and what is asked of a record.
 -- Assumes nothing.
 use Rattle.names.specs.declared.Reason.TheVariants.{Repeated, Undeclared}
-use Rattle.std.specs.Prelude.{ℕ, ◌+◌, ◌≡◌, Bool, true, false, cond, not, ◌&&◌, List, [], ◌∷◌, eqb, None, unwrap_or}
+use Rattle.std.specs.Prelude.{ℕ, ◌+◌, ◌≤◌, ◌≡◌, Bool, true, false, cond, not, ◌&&◌, List, [], ◌∷◌, length, eqb, None, Option, Some, unwrap_or}
 use Rattle.names.specs.Lists.{In}
-use Rattle.names.specs.Names.{text, is_blank}
+use Rattle.names.specs.Names.{text, is_blank, is_name_or_blank, field_at}
 use Rattle.names.specs.Judging.{Row, row}
 use Rattle.recipe.specs.Records.{Recipe, places, is_element, is_port, is_submodel, is_factors, is_owned, is_pointer, parent_field, reference_field, submodel_offset, submodel_field, way, target_field, time_field, extent_field}
 use Rattle.recipe.specs.Definitions.{holder, element_named, model_of, owner_of, element_in, submodel_of, scaled_by}
@@ -12,17 +12,24 @@ use Rattle.shadow.specs.Shadow.{Cell}
 use Rattle.shadow.specs.Columns.{Numbered}
 use Rattle.links.specs.declared.Held.{Held}
 use Rattle.links.specs.declared.Links.{Links}
-use Rattle.record_index.specs.Entries.{IndexRequires}
+use Rattle.record_index.specs.Entries.{SoughtIn}
 
 -- rows 4 and 5, which look at what the records name
 abbrev pub declared_rows : Recipe → List Row
 declared_rows s = row Repeated (fault₄ s) ∷ row Undeclared (fault₅ s) ∷ []
 
--- a record and its definition, over the index
-pub record RecordRequires (s : Recipe) (at fields keys index : List ℕ) (h : Held) : Type 0 where
-  pub named : IndexRequires s at fields keys index
+-- a record and its definition
+pub record RecordRequires (s : Recipe) (h : Held) : Type 0 where
   pub placed : In h.place (places s)
   pub held : h.definition ≡ holder s h.place
+
+-- what may be sought in the record's definition: kind k, by the name at q
+abbrev pub SoughtAt : Recipe → Held → ℕ → ℕ → Type 0
+SoughtAt s h k q = SoughtIn s (record { kind = k; definition = h.definition; name = q })
+
+-- a field at q that may be blank
+abbrev pub OptionalAt : Recipe → ℕ → Type 0
+OptionalAt s q = (q + s.width ≤ length s.bytes) × (is_name_or_blank (field_at s.width s.bytes q) ≡ true)
 
 -- a port or mark that names a submodel
 unfoldable pub is_pointing : Recipe → ℕ → Bool
@@ -56,12 +63,12 @@ own_of s p =
     (cond (is_factors s p) (unwrap_or (element_in s p (extent_field s p)) 0) 0)
 
 -- what a record names, cell by cell
-abbrev pub links : Bool → ℕ → ℕ → ℕ → Links
-links b x y z = record { undeclared = b; upper = x; lower = y; own = z }
+abbrev pub links : ℕ → ℕ → ℕ → Links
+links x y z = record { upper = x; lower = y; own = z }
 
--- whether row 5 refuses the record at p, and what it names
-unfoldable pub links_of : Recipe → ℕ → Links
-links_of s p = links (is_undeclared s p) (upper_of s p) (lower_of s p) (own_of s p)
+-- what the record at p names, none where row 5 refuses it
+unfoldable pub links_of : Recipe → ℕ → Option Links
+links_of s p = cond (is_undeclared s p) None (Some (links (upper_of s p) (lower_of s p) (own_of s p)))
 
 -- the cells 3 and 4 of each record, of a recipe that rows 1 to 5 do not refuse
 pub record Pointed (s : Recipe) (t : List ℕ) : Type 0 where

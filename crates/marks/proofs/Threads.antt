@@ -24,7 +24,11 @@ use Rattle.tree.specs.Planted.{instance_from}
 use Rattle.tree.specs.Tree.{Node, definition_at, instances, node, nodes}
 use Rattle.tree.proofs.ByRecord.{node_in}
 use Rattle.tree.proofs.Nodes.{in-nodes, node-eq, node-holder, node-place}
-use Rattle.marks.specs.Cells.{MarksRequires}
+use Rattle.targets.specs.Targeted.{Targeted}
+
+-- each instance has a row
+pub has-row : {s : Recipe} {t inst : List ℕ} {insts i : ℕ} → Targeted s t inst insts → i < length (instances s) → i < insts
+has-row T l = rw T.planted.rows.count l
 
 -- so many instances are passed
 abbrev pub past : Recipe → ℕ → ℕ
@@ -94,26 +98,17 @@ abbrev pub Done : Recipe → ℕ → ℕ → Node → Type 0
 Done s p i q = (q.place < p) ⊎ ((q.place ≡ p) × ((m : ℕ) × ((m < i) × (q.path ≡ path s m))))
 
 -- ---- the thread of the record at p
-module _ {s : Recipe} {t inst : List ℕ} (T : MarksRequires s t inst) (p : ℕ) (here : In p (places s)) where
+module _ {s : Recipe} {t inst : List ℕ} {insts : ℕ} (T : Targeted s t inst insts) (p : ℕ) (here : In p (places s)) where
   pub thread-start : {h v : ℕ} → h ≡ get_or t (p + 0) 0 → v ≡ get_or t (h + 8) 0 → Thread s (holder s p) 0 v
   thread-start {h} {v} a b =
       let q : h ≡ holder s p = a ∙ T.planted.measured.linked.numbered.held p here in
       rw (b ∙ ap (λ (k : ℕ). get_or t (k + 8) 0) q ∙ T.planted.firsts (holder s p) (holder_in s p here)) (thread-at s (holder s p) (length (instances s)) 0 (omega arith))
 
   module _ {v : ℕ} (N : On s (holder s p) v) (z : v ≡ 0 → ⊥) where
-    pub thread-room : 6 * (v - 1) + 6 ≤ length inst
-    thread-room = let l = (N.holds z).0 in omega (arith, T.planted.rows.room)
-
-    pub thread-fits : Fits w64 (6 * (v - 1))
-    thread-fits = let l = (N.holds z).0 in omega (arith, T.planted.rows.few)
-
     pub thread-next : {u : ℕ} → u ≡ get_or inst (6 * (v - 1) + 5) 0 → Thread s (holder s p) (v - 1 + 1) u
     thread-next {u} e =
         let l = (N.holds z).0 in
-        rw (e ∙ T.planted.rows.same (v - 1) l, (N.holds z).1, add-one (v - 1)) (thread-at s (holder s p) (length (instances s) - suc (v - 1)) (suc (v - 1)) (omega arith))
-
-    pub thread-less : {u : ℕ} → u ≡ get_or inst (6 * (v - 1) + 5) 0 → length (instances s) - past s u < length (instances s) - past s v
-    thread-less {u} e = let l = (N.holds z).0 in omega (arith, (thread-next e).further, (thread-next e).on.within, past-some s v z)
+        rw (e ∙ T.planted.rows.same (v - 1) (has-row T l), (N.holds z).1, add-one (v - 1)) (thread-at s (holder s p) (length (instances s) - suc (v - 1)) (suc (v - 1)) (omega arith))
 
 -- a record is a node of the instances of its definition
 pub this-in : (s : Recipe) (t : ℕ → Bool) (p i : ℕ) → In p (places s) → is_model s p ≡ false → t p ≡ true → Holds s (holder s p) i → In (node (path s i) p) (nodes s t)
@@ -194,7 +189,7 @@ module _ (s : Recipe) (t : ℕ → Bool) (W : (Node → Type 0) → Type 0)
 abbrev pub Along : Recipe → ℕ → ((Node → Type 0) → Type 0) → ℕ → Type 0
 Along s p W v = On s (holder s p) v × W (Done s p (past s v))
 
-module _ {s : Recipe} {t inst : List ℕ} (T : MarksRequires s t inst) (test : ℕ → Bool) (W : (Node → Type 0) → Type 0)
+module _ {s : Recipe} {t inst : List ℕ} {insts : ℕ} (T : Targeted s t inst insts) (test : ℕ → Bool) (W : (Node → Type 0) → Type 0)
     (same : (D E : Node → Type 0) → ((q : Node) → In q (nodes s test) → E q → D q) → ((q : Node) → In q (nodes s test) → D q → E q) → W D → W E)
     (p : ℕ) (here : In p (places s)) where
   pub begin : {h v : ℕ} → h ≡ get_or t (p + 0) 0 → v ≡ get_or t (h + 8) 0 → W (λ q. q.place < p) → Along s p W v
@@ -227,7 +222,7 @@ SeekLoop s t p f v = Along s p (Missed s t p f) v
 pub found-one : (s : Recipe) (t : ℕ → Bool) (p : ℕ) (f : Node → Bool) (x : Node) → In x (nodes s t) → x.place ≡ p → f x ≡ true → any (λ r. eqb r.place p && f r) (nodes s t) ≡ true
 found-one s t p f x i e h = any-in (λ r. eqb r.place p && f r) (nodes s t) x i (both (eq-eqb x.place p e) h)
 
-module _ {s : Recipe} {t inst : List ℕ} (T : MarksRequires s t inst) (test : ℕ → Bool) (p : ℕ) (here : In p (places s)) (f : Node → Bool) where
+module _ {s : Recipe} {t inst : List ℕ} {insts : ℕ} (T : Targeted s t inst insts) (test : ℕ → Bool) (p : ℕ) (here : In p (places s)) (f : Node → Bool) where
   same : (D E : Node → Type 0) → ((q : Node) → In q (nodes s test) → E q → D q) → ((q : Node) → In q (nodes s test) → D q → E q) → Missed s test p f D → Missed s test p f E
   same D E a b m q i e d = m q i e (a q i d)
 

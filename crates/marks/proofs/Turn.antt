@@ -33,7 +33,8 @@ use Rattle.tree.proofs.Instances.{below-append, depth}
 use Rattle.tree.proofs.Numbering.{number-few}
 use Rattle.tree.proofs.Trees.{first-append}
 use Rattle.names.proofs.Lists.{get_or-in}
-use Rattle.marks.specs.Cells.{MarksRequires, Stamped, aim_number, asks, gone_cell, is_set, mark_cell, meets, owner_cell, port_cell, stamped, stamps}
+use Rattle.targets.specs.Targeted.{Targeted}
+use Rattle.marks.specs.Cells.{Stamped, aim_number, asks, gone_cell, is_set, mark_cell, meets, owner_cell, port_cell, stamped, stamps}
 use Rattle.marks.specs.declared.Pointer.{Pointer}
 use Rattle.marks.specs.Faults.{conflicts_with_earlier}
 use Rattle.marks.specs.Marks.{conflict, from, owner, tree_pointers}
@@ -42,7 +43,7 @@ use Rattle.marks.proofs.Marks.{aim-in, aim-some, aim-target, owner-in, pointer-h
 use Rattle.marks.proofs.Pass.{not-model, query, stamped-one, stamped-same}
 use Rattle.marks.proofs.Records.{stamped-by, stamped-other, stamped-port}
 use Rattle.marks.proofs.Relations.{aimed-is}
-use Rattle.marks.proofs.Threads.{Along, Done, Holds, On, SeekLoop, begin, finish, found-one, path, seek-end, seek-turn, this-in, turn}
+use Rattle.marks.proofs.Threads.{Along, Done, Holds, On, SeekLoop, begin, finish, found-one, has-row, path, seek-end, seek-turn, this-in, turn}
 
 -- ---- the numbers of targets and owners, from those of their instance
 module _ (s : Recipe) where
@@ -70,21 +71,21 @@ module _ (s : Recipe) where
   owner-number r h = ap (λ (d : ℕ). first_at s r.path + order s d (owner_of s r.place)) (sym (pointer-holder s r h))
 
 -- ---- cells after a store
-set-cell : (t : List ℕ) (a c : ℕ) → a < length t → is_set (set t a 1) c ≡ is_set t c || eqb c a
+set-cell : (t : List Bool) (a c : ℕ) → a < length t → is_set (set t a true) c ≡ is_set t c || eqb c a
 set-cell t a c h =
     by_cases (eqb c a)
-    (λ e. let q = eqb-true c a e in rw (e, q, get_or-set_same t a 1 0 h) (sym (or-true (is_set t a))))
-    (λ e. rw (e, get_or-set_other t a c 1 0 (eqb-false c a e)) (sym (or-false (is_set t c))))
+    (λ e. let q = eqb-true c a e in rw (e, q, get_or-set_same t a true false h) (sym (or-true (is_set t a))))
+    (λ e. rw (e, get_or-set_other t a c true false (eqb-false c a e)) (sym (or-false (is_set t c))))
 
-set-two : (t : List ℕ) (a b c : ℕ) → a < length t → b < length t → is_set (set (set t a 1) b 1) c ≡ is_set t c || among c (a ∷ b ∷ [])
+set-two : (t : List Bool) (a b c : ℕ) → a < length t → b < length t → is_set (set (set t a true) b true) c ≡ is_set t c || among c (a ∷ b ∷ [])
 set-two t a b c h k =
-    set-cell (set t a 1) b c (omega (arith, length-set t a 1))
+    set-cell (set t a true) b c (omega (arith, length-set t a true))
     ∙ ap (λ (z : Bool). z || eqb c b) (set-cell t a c h)
     ∙ or_assoc (is_set t c) (eqb c a) (eqb c b)
     ∙ ap (λ (z : Bool). is_set t c || z) (sym (among_two c a b))
 
 -- a store keeps the length
-pub stamped-length : (k e o d : ℕ) (t : List ℕ) {t' : List ℕ} → t' ≡ stamped t k e o d → length t' ≡ length t
+pub stamped-length : (k e o d : ℕ) (t : List Bool) {t' : List Bool} → t' ≡ stamped t k e o d → length t' ≡ length t
 unfolding stamped
 stamped-length k e o d t q =
     ap length q
@@ -110,18 +111,13 @@ abbrev pub Checked : Recipe → ℕ → ℕ → Type 0
 Checked s p v = SeekLoop s (is_pointer s) p (clash s p) v
 
 -- the cells set, along the instances
-abbrev pub EnterLoop : Recipe → ℕ → List ℕ → ℕ → Type 0
+abbrev pub EnterLoop : Recipe → ℕ → List Bool → ℕ → Type 0
 EnterLoop s p u v = Along s p (λ D. Stamped s D u) v
 
 -- ---- where the cells of a record lie
-module _ {s : Recipe} {t inst : List ℕ} (T : MarksRequires s t inst) (p : ℕ) (here : In p (places s)) where
+module _ {s : Recipe} {t inst : List ℕ} {insts : ℕ} (T : Targeted s t inst insts) (p : ℕ) (here : In p (places s)) where
   pub record-room : p + 13 ≤ length t
   record-room = row_room T.planted.measured.linked.numbered.shadowed p here
-
-  pub holder-room : {h : ℕ} → h ≡ get_or t (p + 0) 0 → h + 13 ≤ length t
-  holder-room {h} e =
-      rw (e ∙ T.planted.measured.linked.numbered.held p here)
-      (row_room T.planted.measured.linked.numbered.shadowed (holder s p) (definition-place s (holder s p) (holder_in s p here)).0)
 
   -- its owner
   owner-held : is_owned s p ≡ true → Held s (is_element s) (holder s p) (owner_of s p)
@@ -146,7 +142,7 @@ module _ {s : Recipe} {t inst : List ℕ} (T : MarksRequires s t inst) (p : ℕ)
   read-room = (omega (arith, place-low s p here), (omega (arith, record-room), owner-asks.1))
 
 -- ---- a mark or port in one instance
-module _ {s : Recipe} {t inst : List ℕ} (T : MarksRequires s t inst) (p : ℕ) (here : In p (places s)) (sort : is_pointer s p ≡ true) where
+module _ {s : Recipe} {t inst : List ℕ} {insts : ℕ} (T : Targeted s t inst insts) (p : ℕ) (here : In p (places s)) (sort : is_pointer s p ≡ true) where
   abbrev pub it : ℕ → Node
   it i = node (path s i) p
 
@@ -159,7 +155,7 @@ module _ {s : Recipe} {t inst : List ℕ} (T : MarksRequires s t inst) (p : ℕ)
     ptr = it-in i w.holds
 
     first-eq : f ≡ first_at s (path s i)
-    first-eq = w.first-is ∙ T.planted.rows.start i w.holds.0
+    first-eq = w.first-is ∙ T.planted.rows.start i (has-row T w.holds.0)
 
     pub aim-eq : f + e ≡ aim_number s (it i)
     unfolding node tree_pointers
@@ -205,7 +201,7 @@ module _ {s : Recipe} {t inst : List ℕ} (T : MarksRequires s t inst) (p : ℕ)
 
     module _ {d : ℕ} (q : d ≡ get_or inst (6 * i + 1) 0) where
       depth-eq : d ≡ length (path s i)
-      depth-eq = q ∙ T.planted.rows.depth i w.holds.0
+      depth-eq = q ∙ T.planted.rows.depth i (has-row T w.holds.0)
 
       -- what `meets_any` and `stamp` require
       fits : InCells (record { kind = k; target = f + e; owner = f + o; depth = d })
@@ -216,7 +212,7 @@ module _ {s : Recipe} {t inst : List ℕ} (T : MarksRequires s t inst) (p : ℕ)
       }
 
       -- the test of the cells is the test for a conflict with an earlier record
-      pub meets-law : (u : List ℕ) → Stamped s (λ q. q.place < p) u → meets u k (f + e) (f + o) d ≡ any (λ q. ltb q.place p && conflict s q (it i)) (tree_pointers s)
+      pub meets-law : (u : List Bool) → Stamped s (λ q. q.place < p) u → meets u k (f + e) (f + o) d ≡ any (λ q. ltb q.place p && conflict s q (it i)) (tree_pointers s)
       unfolding meets asks is_port is_replaced_by kind node
       meets-law u h =
           let Q = query s T.planted.measured.linked.row₅ T.planted.row₇ T.aimed.row₈ p u h (it i) ptr in
@@ -240,7 +236,7 @@ module _ {s : Recipe} {t inst : List ℕ} (T : MarksRequires s t inst) (p : ℕ)
       unfolding stamps is_port is_replaced_by kind node mark_cell gone_cell
       stamps-other a b = rw (sym w.kind-is, a, b, aim-eq, depth-eq)
 
-      pub stamped-law : (u : List ℕ) (c : ℕ) → length u ≡ 12 * 1024 → is_set (stamped u k (f + e) (f + o) d) c ≡ is_set u c || among c (stamps s (it i))
+      pub stamped-law : (u : List Bool) (c : ℕ) → length u ≡ 12 * 1024 → is_set (stamped u k (f + e) (f + o) d) c ≡ is_set u c || among c (stamps s (it i))
       stamped-law u c l =
           let F = fits in
           by_cases (port_kind k)
@@ -255,7 +251,7 @@ module _ {s : Recipe} {t inst : List ℕ} (T : MarksRequires s t inst) (p : ℕ)
           rw (← stamped-other u k (f + e) (f + o) d a (mark-is a) b, stamps-other a b) (set-two u (12 * (f + e) + (5 - d)) (12 * (f + e) + 11) c (omega arith) (omega arith))))
 
       -- one instance more has set its cells
-      pub entered : (u : List ℕ) (D : Node → Type 0) → length u ≡ 12 * 1024 → Stamped s D u → Stamped s (λ q. D q ⊎ (q ≡ it i)) (stamped u k (f + e) (f + o) d)
+      pub entered : (u : List Bool) (D : Node → Type 0) → length u ≡ 12 * 1024 → Stamped s D u → Stamped s (λ q. D q ⊎ (q ≡ it i)) (stamped u k (f + e) (f + o) d)
       entered u D l S = stamped-one s u (stamped u k (f + e) (f + o) d) D (it i) ptr (λ c. stamped-law u c l) S
 
   -- ---- one step along the instances: x is what is read of the record, y the same in the instance
@@ -267,7 +263,7 @@ module _ {s : Recipe} {t inst : List ℕ} (T : MarksRequires s t inst) (p : ℕ)
     step-fits = rw e (fits read refl)
 
     -- the test of its cells
-    module _ {u : List ℕ} {m : Bool} (S : Stamped s (λ q. q.place < p) u) (met : m ≡ meets u y.kind y.target y.owner y.depth) where
+    module _ {u : List Bool} {m : Bool} (S : Stamped s (λ q. q.place < p) u) (met : m ≡ meets u y.kind y.target y.owner y.depth) where
       step-clash : clash s p (it i) ≡ m
       step-clash = sym (meets-law read refl u S) ∙ sym (rw e at met)
 
@@ -279,11 +275,11 @@ module _ {s : Recipe} {t inst : List ℕ} (T : MarksRequires s t inst) (p : ℕ)
       check-turn h c = seek-turn T (is_pointer s) p here (clash s p) c z.some z.on (ap (λ (j : ℕ). clash s p (it j)) (sym z.number) ∙ step-clash ∙ h)
 
     -- its cells are set
-    step-entered : (u : List ℕ) (D : Node → Type 0) → length u ≡ 12 * 1024 → Stamped s D u → Stamped s (λ q. D q ⊎ (q ≡ it (a.next - 1))) (stamped u y.kind y.target y.owner y.depth)
+    step-entered : (u : List Bool) (D : Node → Type 0) → length u ≡ 12 * 1024 → Stamped s D u → Stamped s (λ q. D q ⊎ (q ≡ it (a.next - 1))) (stamped u y.kind y.target y.owner y.depth)
     step-entered u D l S =
         subst (λ (j : ℕ). Stamped s (λ q. D q ⊎ (q ≡ it j)) (stamped u y.kind y.target y.owner y.depth)) z.number (rw e (entered read refl u D l S))
 
-    pub enter-turn : (u : List ℕ) {u' : List ℕ} → length u ≡ 12 * 1024 → u' ≡ stamped u y.kind y.target y.owner y.depth → EnterLoop s p u a.next → EnterLoop s p u' b.next
+    pub enter-turn : (u : List Bool) {u' : List Bool} → length u ≡ 12 * 1024 → u' ≡ stamped u y.kind y.target y.owner y.depth → EnterLoop s p u a.next → EnterLoop s p u' b.next
     enter-turn u l q c =
         let v = stamped u y.kind y.target y.owner y.depth in
         rw q
@@ -293,8 +289,8 @@ module _ {s : Recipe} {t inst : List ℕ} (T : MarksRequires s t inst) (p : ℕ)
   unfolding conflicts_with_earlier tree_pointers
   check-end a z = sym (seek-end T (is_pointer s) p here (clash s p) a z)
 
-  pub enter-start : {h v : ℕ} (u : List ℕ) → h ≡ get_or t (p + 0) 0 → v ≡ get_or t (h + 8) 0 → Stamped s (λ q. q.place < p) u → EnterLoop s p u v
+  pub enter-start : {h v : ℕ} (u : List Bool) → h ≡ get_or t (p + 0) 0 → v ≡ get_or t (h + 8) 0 → Stamped s (λ q. q.place < p) u → EnterLoop s p u v
   enter-start u a b S = begin T (is_pointer s) (λ D. Stamped s D u) (stamped-same s u) p here a b S
 
-  pub enter-end : {v : ℕ} (u : List ℕ) → EnterLoop s p u v → v ≡ 0 → Stamped s (λ q. q.place < next s p) u
+  pub enter-end : {v : ℕ} (u : List Bool) → EnterLoop s p u v → v ≡ 0 → Stamped s (λ q. q.place < next s p) u
   enter-end u a z = finish T (is_pointer s) (λ D. Stamped s D u) (stamped-same s u) p here a z

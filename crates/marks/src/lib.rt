@@ -1,17 +1,19 @@
 // Marks in the tree: which records conflict; the refusal 9.
-// For the floors above: first_conflict, owner_order, and the cells that it fills. They take the name width w, the shadow t and the rows of the instances inst.
+// For the floors above: first_conflict, owner_order, and the cells that it fills. They take the tree.
 #![tactic(auto)]
 
-ghost use Rattle.std.specs.Prelude.{◌≡◌, true, ◌*◌, ◌+◌, ◌≤◌, ◌<◌, length, get_or, replicate};
+ghost use Rattle.std.specs.Prelude.{◌≡◌, true, false, ◌*◌, ◌+◌, ◌≤◌, ◌<◌, length, get_or, replicate};
 ghost use Rattle.names.specs.Lists.{In};
-ghost use Rattle.recipe.specs.Records.{recipe_at, places, is_pointer, next, owned_kind, replaced_by_kind};
+ghost use Rattle.recipe.specs.Records.{places, is_pointer, next, owned_kind, replaced_by_kind};
+ghost use Rattle.targets.specs.Trees.{recipe_of};
 ghost use Rattle.marks.specs.Faults.{conflicts_with_earlier, fault₉};
-ghost use Rattle.marks.specs.Cells.{any_set, Stamped, AllStamped, MarksRequires, meets, stamped};
+ghost use Rattle.marks.specs.Cells.{any_set, Stamped, AllStamped, meets, stamped};
 ghost use Rattle.marks.specs.Pointers.{InCells, ReadAt, in_row};
 
 use recipe::Records;
 use shadow::{ELEMENT_ORDER, OWNER, TARGET_NUMBER, cell};
-use tree::{DEPTH, FIRST_ELEMENT, InstancesOf};
+use targets::Tree;
+use tree::{DEPTH, FIRST_ELEMENT};
 
 // Twelve cells for each of at most 1,024 elements.
 pub const CELLS: usize = 12288;
@@ -29,11 +31,11 @@ pub fn owner_order(t: &[u16], p: usize, k: u8) -> usize
 }
 
 // One of n cells from a on is set.
-fn any_set(cells: &[u8], a: usize, n: usize) -> bool
+fn any_set(cells: &[bool], a: usize, n: usize) -> bool
     requires { a + n ≤ length cells.now }
     ensures { result ≡ any_set cells.now a n }
 {
-    cells[a..a + n].iter().any(|x| *x != 0)
+    cells[a..a + n].iter().any(|x| *x)
 }
 
 // A mark or port in one instance: its kind, the numbers of its target and, if it has one, its owner, and its depth.
@@ -77,7 +79,7 @@ impl Pointer {
 
     // A cell that it asks is set.
     #[tactic(auto, unfolding(crate::specs::Cells::meets, crate::specs::Cells::port_cell, crate::specs::Cells::any_set))]
-    fn meets_any(self, cells: &[u8]) -> bool
+    fn meets_any(self, cells: &[bool]) -> bool
         requires { (length cells.now ≡ 12 * 1024) × InCells self }
         ensures { result ≡ meets cells.now self.kind self.target self.owner self.depth }
     {
@@ -94,35 +96,35 @@ impl Pointer {
 
     // Sets its cells.
     #[tactic(auto, unfolding(crate::specs::Cells::stamped, crate::specs::Cells::mark_cell, crate::specs::Cells::port_cell, crate::specs::Cells::owner_cell, crate::specs::Cells::gone_cell))]
-    fn stamp(self, cells: &mut [u8])
+    fn stamp(self, cells: &mut [bool])
         requires { (length cells.old ≡ 12 * 1024) × InCells self }
         ensures { cells.new ≡ stamped cells.old self.kind self.target self.owner self.depth }
     {
         let e = 12 * self.target;
         if recipe::is_port(self.kind) {
-            cells[e + (6 + self.depth)] = 1;
+            cells[e + (6 + self.depth)] = true;
             return;
         }
         if !recipe::is_mark(self.kind) {
             return;
         }
-        cells[e + (5 - self.depth)] = 1;
+        cells[e + (5 - self.depth)] = true;
         if recipe::is_replaced_by(self.kind) {
-            cells[12 * self.owner] = 1;
+            cells[12 * self.owner] = true;
             return;
         }
-        cells[e + 11] = 1;
+        cells[e + 11] = true;
     }
 }
 
 // The record at p, a mark or port, conflicts with an earlier one.
-fn conflicts_at(s: &[u8], w: usize, p: usize, t: &[u16], inst: &[u16], cells: &[u8]) -> bool
-    requires { MarksRequires (recipe_at w s.now) t.now inst.now × (In p (places (recipe_at w s.now)) × ((is_pointer (recipe_at w s.now) p ≡ true) × (Stamped (recipe_at w s.now) (λ q. q.place < p) cells.now × (length cells.now ≡ 12 * 1024)))) }
-    ensures { result ≡ conflicts_with_earlier (recipe_at w s.now) p }
+fn conflicts_at(tree: &Tree, p: usize, cells: &[bool]) -> bool
+    requires { In p (places (recipe_of tree.now)) × ((is_pointer (recipe_of tree.now) p ≡ true) × (Stamped (recipe_of tree.now) (λ q. q.place < p) cells.now × (length cells.now ≡ 12 * 1024))) }
+    ensures { result ≡ conflicts_with_earlier (recipe_of tree.now) p }
 {
-    let pointer = Pointer::read(s, t, p);
-    for i in InstancesOf::record(t, inst, p) {
-        if pointer.in_instance(inst, i).meets_any(cells) {
+    let pointer = Pointer::read(tree.source.bytes, tree.shadow, p);
+    for i in tree.instances_of(p) {
+        if pointer.in_instance(tree.instances, i).meets_any(cells) {
             return true;
         }
     }
@@ -130,33 +132,27 @@ fn conflicts_at(s: &[u8], w: usize, p: usize, t: &[u16], inst: &[u16], cells: &[
 }
 
 // Sets the cells of the record at p, a mark or port, in each instance of its definition.
-fn enter_at(s: &[u8], w: usize, p: usize, t: &[u16], inst: &[u16], cells: &mut [u8])
-    requires { MarksRequires (recipe_at w s.now) t.now inst.now × (In p (places (recipe_at w s.now)) × ((is_pointer (recipe_at w s.now) p ≡ true) × (Stamped (recipe_at w s.now) (λ q. q.place < p) cells.old × (length cells.old ≡ 12 * 1024)))) }
-    ensures { Stamped (recipe_at w s.now) (λ q. q.place < next (recipe_at w s.now) p) cells.new × (length cells.new ≡ 12 * 1024) }
+fn enter_at(tree: &Tree, p: usize, cells: &mut [bool])
+    requires { In p (places (recipe_of tree.now)) × ((is_pointer (recipe_of tree.now) p ≡ true) × (Stamped (recipe_of tree.now) (λ q. q.place < p) cells.old × (length cells.old ≡ 12 * 1024))) }
+    ensures { Stamped (recipe_of tree.now) (λ q. q.place < next (recipe_of tree.now) p) cells.new × (length cells.new ≡ 12 * 1024) }
 {
-    let pointer = Pointer::read(s, t, p);
-    for i in InstancesOf::record(t, inst, p) {
-        pointer.in_instance(inst, i).stamp(cells);
+    let pointer = Pointer::read(tree.source.bytes, tree.shadow, p);
+    for i in tree.instances_of(p) {
+        pointer.in_instance(tree.instances, i).stamp(cells);
     }
 }
 
 // Row 9: the first record that conflicts with an earlier one; where there is none, the cells that all records set.
-pub fn first_conflict(
-    s: &[u8],
-    w: usize,
-    t: &[u16],
-    inst: &[u16],
-    cells: &mut [u8],
-) -> Option<usize>
-    requires { MarksRequires (recipe_at w s.now) t.now inst.now × (cells.old ≡ replicate (12 * 1024) 0) }
-    ensures { (result ≡ fault₉ (recipe_at w s.now)) × (result ≡ None → AllStamped (recipe_at w s.now) cells.new × (length cells.new ≡ 12 * 1024)) }
+pub fn first_conflict(tree: &Tree, cells: &mut [bool]) -> Option<usize>
+    requires { cells.old ≡ replicate (12 * 1024) false }
+    ensures { (result ≡ fault₉ (recipe_of tree.now)) × (result ≡ None → AllStamped (recipe_of tree.now) cells.new × (length cells.new ≡ 12 * 1024)) }
 {
-    for p in Records::of(s, w) {
-        if recipe::is_pointer(s[p]) {
-            if conflicts_at(s, w, p, t, inst, cells) {
+    for p in Records::of(tree.source) {
+        if recipe::is_pointer(tree.source.bytes[p]) {
+            if conflicts_at(tree, p, cells) {
                 return Some(p);
             }
-            enter_at(s, w, p, t, inst, cells);
+            enter_at(tree, p, cells);
         }
     }
     None

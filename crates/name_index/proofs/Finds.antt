@@ -1,65 +1,50 @@
 -- A name's place in an index, what stands there, and the first repeat. Assumes nothing.
-use Rattle.std.specs.Prelude.{None, Some}
-use mathlib.Core.Path.{◌≡◌, sym, ap, ◌∙◌}
+use Rattle.std.specs.Prelude.{Bool, Option, None, Some}
+use mathlib.Core.Path.{◌≡◌, sym, ap, ◌∙◌, subst}
 use mathlib.Core.Bool.{true, false}
 use mathlib.Core.List.{List}
 use Prim.Native.Nat.{ℕ, ◌+◌, ◌-◌, ◌<◌, ◌≤◌}
 use native.Mathlib.Omega.{arith}
-use lib.ListN.{get_or}
+use lib.ListN.{get_or, length, take, drop}
+use lib.Dec.{ltb}
+use borrow.Author.Tests.{ltb-true, ltb-false}
+use Rattle.std.specs.declared.slice.Windows.{Windows}
+use Rattle.std.specs.Bool.{then_some}
+use Rattle.std.specs.Option.{MatchOption}
+use Rattle.std.proofs.lemmas.Iterator.{window_more}
+use denote.Ref.{Bor}
+use Rattle.std.specs.Slice.Iter.{windows_size, windows_rest}
 use Rattle.names.specs.Lists.{same}
 use Rattle.names.specs.Scans.{scan}
 use Rattle.names.specs.Order.{before}
-use Rattle.name_index.specs.declared.Layout.{Layout}
-use Rattle.name_index.specs.Index.{keyed_name, Indexes, is_repeat}
-use Rattle.name_index.specs.Steps.{InsertionPoint}
+use Rattle.name_index.specs.declared.Records.{Records}
+use Rattle.name_index.specs.Index.{ordered, is_repeat}
+use Rattle.name_index.specs.Positions.{count, entry, total_entry}
 use Rattle.names.proofs.Tests.{by_cases, not-both, three}
-use Rattle.names.proofs.Lists.{same_true, same_false, eq-same}
+use Rattle.names.proofs.Lists.{same_true, same_false, same-eq, eq-same}
 use Rattle.names.proofs.Scans.{scan-at, scan-none, scan-some, some-scan}
-use Rattle.names.proofs.Orders.{le_trans, le-lt, antisym, irreflexive}
-use Rattle.name_index.proofs.Sorted.{Ranked, ranked}
+use Rattle.names.proofs.Orders.{le-lt, antisym, irreflexive}
+use Rattle.std.proofs.lemmas.List.{get_or_default}
+use Rattle.std.specs.List.Sorted.{IsPartitionedBy, IsPartitionPoint}
+use Rattle.name_index.proofs.Sorted.{Ranked, ranked, ordered-cong}
+use Rattle.name_index.proofs.Positions.{entry-inside}
 
 module _ (name : ℕ → List ℕ) (xs : List ℕ) (n : ℕ) where
-  -- ---- halving: all before lo come before f, none from hi on
-  pub record Narrow (f : List ℕ) (lo hi : ℕ) : Type 0 where
-    pub order : lo ≤ hi
-    pub within : hi ≤ n
-    pub low : (k : ℕ) → k < lo → before (name (get_or xs k 0)) f ≡ true
-    pub high : (k : ℕ) → hi ≤ k → k < n → before (name (get_or xs k 0)) f ≡ false
+  -- ---- where the name f stands or would stand: all names before the place come before f, no later one does
+  pub record InsertionPoint (f : List ℕ) (r : ℕ) : Type 0 where
+    pub within : r ≤ n
+    pub low : (k : ℕ) → k < r → before (name (get_or xs k 0)) f ≡ true
+    pub high : (k : ℕ) → r ≤ k → k < n → before (name (get_or xs k 0)) f ≡ false
 
-  pub narrow_start : (f : List ℕ) → Narrow f 0 n
-  narrow_start f = record { order = omega arith; within = omega arith; low = λ k h. absurd (omega arith); high = λ k h l. absurd (omega arith) }
-
-  pub narrow-up : {f : List ℕ} {lo hi : ℕ} → Ranked name n xs → Narrow f lo hi → (mid : ℕ) → lo ≤ mid → mid < hi → before (name (get_or xs mid 0)) f ≡ true
-      → Narrow f (mid + 1) hi
-  narrow-up {f} {lo} {hi} r w mid h l e = record {
-    order = omega arith;
-    within = w.within;
-    low = λ k u.
-        three k mid
-        (λ v. le-lt (name (get_or xs k 0)) (name (get_or xs mid 0)) f (r.rising k mid v (omega (arith, w.within))).0 e)
-        (λ v. rw v e)
-        (λ v. absurd (omega arith));
-    high = w.high;
-  }
-
-  pub narrow-down : {f : List ℕ} {lo hi : ℕ} → Ranked name n xs → Narrow f lo hi → (mid : ℕ) → lo ≤ mid → mid < hi → before (name (get_or xs mid 0)) f ≡ false
-      → Narrow f lo mid
-  narrow-down {f} {lo} {hi} r w mid h l e = record {
-    order = h;
-    within = omega (arith, w.within);
-    low = w.low;
-    high = λ k u v.
-        three mid k
-        (λ z. le_trans f (name (get_or xs mid 0)) (name (get_or xs k 0)) e (r.rising mid k z v).0)
-        (λ z. rw (sym z) e)
-        (λ z. absurd (omega arith));
-  }
-
-  pub narrow-done : {f : List ℕ} {lo hi : ℕ} → Narrow f lo hi → hi ≤ lo → InsertionPoint name xs n f lo
-  narrow-done {f} {lo} {hi} w h = record { within = omega (arith, w.within, w.order); low = w.low; high = λ k u v. w.high k (omega arith) v }
+  pub parted : Ranked name n xs → (f : List ℕ) (i j : ℕ) → i ≤ j → j < n → before (name (get_or xs j 0)) f ≡ true → before (name (get_or xs i 0)) f ≡ true
+  parted r f i j l m e =
+      three i j
+      (λ v. le-lt (name (get_or xs i 0)) (name (get_or xs j 0)) f (r.rising i j v m).0 e)
+      (λ v. rw v e)
+      (λ v. absurd (omega arith))
 
   -- ---- what stands at the place
-  module _ (f : List ℕ) (r : ℕ) (p : InsertionPoint name xs n f r) where
+  module _ (f : List ℕ) (r : ℕ) (p : InsertionPoint f r) where
     low-differs : (k q : ℕ) → k < r → get_or xs k 0 ≡ q → name q ≡ f → ⊥
     low-differs k q h e z =
         let b : before (name q) f ≡ true = rw e at (p.low k h) in
@@ -174,5 +159,119 @@ module _ (name : ℕ → List ℕ) (xs : List ℕ) (n : ℕ) where
       scan-none (is_repeat name) n
       (λ q u. by_cases (is_repeat name q) (λ e. absurd (let g = least-repeat r s h q u e in omega arith)) (λ e. e))
 
-pub ranks : {keys s : List ℕ} {l : Layout} {n : ℕ} {index : List ℕ} → Indexes keys s l n index → Ranked (keyed_name keys s l) n index
-ranks {keys} {s} {l} {n} {index} i = ranked (keyed_name keys s l) n index i.order
+-- ---- at the total entries of records, which their positions have in place of the entries
+module _ (r : Records) (xs : List ℕ) (e : xs ≡ ordered (entry r) 0 (count r)) where
+  pub ranks : Ranked (entry r) (count r) xs
+  ranks = ranked (entry r) e
+
+  pub total : (k : ℕ) → k < length xs → total_entry r (get_or xs k 0) ≡ entry r (get_or xs k 0)
+  total k l = entry-inside r (get_or xs k 0) (ranks.below k (omega (arith, ranks.long)))
+
+  pub is-parted : (f : List ℕ) → IsPartitionedBy (λ p. before (total_entry r p) f) xs
+  is-parted f i j d l m t =
+      let di : get_or xs i d ≡ get_or xs i 0 = get_or_default xs i d 0 (omega arith) in
+      let dj : get_or xs j d ≡ get_or xs j 0 = get_or_default xs j d 0 m in
+      let u : before (entry r (get_or xs j 0)) f ≡ true = rw (dj, total j m) at t in
+      rw (di, total i (omega arith)) (parted (entry r) xs (count r) ranks f i j l (omega (arith, ranks.long)) u)
+
+  pub point : (f : List ℕ) (at : ℕ) → at ≤ length xs → IsPartitionPoint (λ p. before (total_entry r p) f ≡ true) (λ p. before (total_entry r p) f ≡ false) xs at
+      → InsertionPoint (entry r) xs (count r) f at
+  point f at l p = record {
+    within = omega (arith, ranks.long);
+    low = λ k u. rw (total k (omega arith)) at (p.0 k 0 (omega arith) u);
+    high = λ k u v. rw (total k (omega (arith, ranks.long))) at (p.1 k 0 u (omega (arith, ranks.long)));
+  }
+
+  -- what the entry at the place f stands or would stand at says
+  module _ (f : List ℕ) (at : ℕ) (p : InsertionPoint (entry r) xs (count r) f at) where
+    pub found-here : at < length xs → same (total_entry r (get_or xs at 0)) f ≡ true → Some (get_or xs at 0) ≡ scan (λ q. same (entry r q) f) (count r)
+    found-here h t = sym (found_at (entry r) xs (count r) f at p (omega (arith, ranks.long)) ranks (rw (total at h) at t))
+
+    pub other-here : at < length xs → same (total_entry r (get_or xs at 0)) f ≡ false → None ≡ scan (λ q. same (entry r q) f) (count r)
+    other-here h t = sym (found_none (entry r) xs (count r) f at p (omega (arith, ranks.long)) ranks (rw (total at h) at t))
+
+    pub none-here : length xs ≤ at → None ≡ scan (λ q. same (entry r q) f) (count r)
+    none-here h = sym (found-past (entry r) xs (count r) f at p (omega (arith, ranks.long)) ranks)
+
+  -- ---- the loop over the pairs of neighbours
+  pub record Scanning (s : Windows ℕ) (best : ℕ) : Type 0 where
+    pub size : windows_size s ≡ 2
+    pub short : length (windows_rest s) ≤ length xs
+    pub rest : windows_rest s ≡ drop (length xs - length (windows_rest s)) xs
+    pub seen : Seen (entry r) xs (count r) (length xs - length (windows_rest s) + 1) best
+
+  pub scanning-start : {s : Windows ℕ} → windows_size s ≡ 2 → windows_rest s ≡ xs → Scanning s (length xs)
+  scanning-start {s} z e =
+      let none : length xs - length (windows_rest s) ≡ 0 = omega (arith, ap length e) in
+      record {
+        size = z;
+        short = omega (arith, ap length e);
+        rest = rw none e;
+        seen = rw (none, ranks.long) (seen_start (entry r) xs (count r));
+      }
+
+  -- a turn at the pair of q and p
+  pub record Pair (s t : Windows ℕ) (q p : ℕ) : Type 0 where
+    pub size : windows_size t ≡ 2
+    pub less : length (windows_rest t) + 1 ≡ length (windows_rest s)
+    pub rest : windows_rest t ≡ drop (length xs - length (windows_rest t)) xs
+    pub room : 2 ≤ length (windows_rest s)
+    pub first : q ≡ get_or xs (length xs - length (windows_rest s)) 0
+    pub second : p ≡ get_or xs (length xs - length (windows_rest s) + 1) 0
+
+  pub pair : {s t : Windows ℕ} {o : Option (Bor (List ℕ))} {x : Bor (List ℕ)} (best : ℕ) → o ≡ Some x
+      → (windows_size t ≡ windows_size s) × MatchOption o ((length (windows_rest s) < windows_size s) × (t ≡ s)) (λ y. (windows_size s ≤ length (windows_rest s)) × (y.now ≡ take (windows_size s) (windows_rest s)) × (windows_rest t ≡ drop 1 (windows_rest s)) × (length y.now ≡ windows_size s))
+      → Scanning s best → Pair s t (get_or x.now 0 0) (get_or x.now 1 0)
+  pair {s} {t} {o} {x} best e steps w =
+      let h = window_more xs s t o x e steps (omega (arith, w.size)) w.short w.rest in
+      record {
+        size = steps.0 ∙ w.size;
+        less = h.0;
+        rest = h.1;
+        room = omega (arith, h.2, w.size);
+        first = h.3 0 0 (omega (arith, w.size)) ∙ ap (λ (k : ℕ). get_or xs k 0) (let P : length xs - length (windows_rest s) + 0 ≡ length xs - length (windows_rest s) = omega arith in P);
+        second = h.3 1 0 (omega (arith, w.size));
+      }
+
+  on : {s t : Windows ℕ} {q p best best' : ℕ} → Scanning s best → Pair s t q p → Seen (entry r) xs (count r) (length xs - length (windows_rest s) + 1 + 1) best' → Scanning t best'
+  on {s} {t} {best' = best'} w m n = record {
+    size = m.size;
+    short = omega (arith, m.less, w.short);
+    rest = m.rest;
+    seen = subst (λ (k : ℕ). Seen (entry r) xs (count r) k best') (omega (arith, m.less, m.room, w.short)) n;
+  }
+
+  module _ {s t : Windows ℕ} {q p best : ℕ} (w : Scanning s best) (m : Pair s t q p) where
+    at-first : get_or xs (length xs - length (windows_rest s) + 1 - 1) 0 ≡ q
+    at-first = ap (λ (k : ℕ). get_or xs k 0) (let P : length xs - length (windows_rest s) + 1 - 1 ≡ length xs - length (windows_rest s) = omega arith in P) ∙ sym m.first
+
+    names : {b : Bool} → b ≡ same (total_entry r q) (total_entry r p)
+        → same (entry r (get_or xs (length xs - length (windows_rest s) + 1 - 1) 0)) (entry r (get_or xs (length xs - length (windows_rest s) + 1) 0)) ≡ b
+    names {b} e =
+        let i = length xs - length (windows_rest s) in
+        let u : total_entry r (get_or xs i 0) ≡ entry r (get_or xs i 0) = total i (omega (arith, m.room, w.short)) in
+        let v : total_entry r (get_or xs (i + 1) 0) ≡ entry r (get_or xs (i + 1) 0) = total (i + 1) (omega (arith, m.room, w.short)) in
+        same-eq (ap (entry r) (at-first ∙ m.first) ∙ (sym u ∙ ap (total_entry r) (sym m.first))) (sym v ∙ ap (total_entry r) (sym m.second)) ∙ sym e
+
+    pub scanning_twin : p < best → {b : Bool} → b ≡ same (total_entry r q) (total_entry r p) → b ≡ true → Scanning t p
+    scanning_twin h e f =
+        let n = seen-new (entry r) xs (count r) ranks w.seen (omega arith) (omega (arith, ranks.long, m.room, w.short)) (omega (arith, m.second)) (names e ∙ f) in
+        on w m (subst (λ (x : ℕ). Seen (entry r) xs (count r) (length xs - length (windows_rest s) + 1 + 1) x) (sym m.second) n)
+
+    pub scanning-other : {b : Bool} → b ≡ same (total_entry r q) (total_entry r p) → b ≡ false → Scanning t best
+    scanning-other e f = on w m (seen_other (entry r) xs (count r) w.seen (names e ∙ f))
+
+    pub scanning-pass : best ≤ p → Scanning t best
+    scanning-pass h = on w m (seen-pass (entry r) xs (count r) w.seen (omega (arith, m.second)))
+
+  pub scanning-end : {s : Windows ℕ} {best : ℕ} → Scanning s best → length (windows_rest s) < 2
+      → then_some (ltb best (length xs)) best ≡ scan (is_repeat (entry r)) (count r)
+  scanning-end {s} {best} w l =
+      let over : count r ≤ length xs - length (windows_rest s) + 1 = omega (arith, ranks.long, w.short) in
+      by_cases (ltb best (length xs))
+      (λ e. rw e (sym (seen_at (entry r) xs (count r) ranks w.seen over (omega (arith, ltb-true best (length xs) e, ranks.long)))))
+      (λ e. rw e (sym (seen_none (entry r) xs (count r) ranks w.seen over (omega (arith, ltb-false best (length xs) e, ranks.long)))))
+
+-- ---- an order of the total entries is one of the entries
+pub ordered-total : (r : Records) (n : ℕ) → n ≡ count r → ordered (total_entry r) 0 n ≡ ordered (entry r) 0 (count r)
+ordered-total r n e = rw e (ordered-cong (total_entry r) (entry r) (count r) (entry-inside r))

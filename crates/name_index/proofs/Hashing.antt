@@ -1,11 +1,16 @@
 -- How the number of a name is computed, and that such keys, or none, change no answer. Assumes nothing.
 use Rattle.std.specs.Prelude.{is_some}
-use mathlib.Core.Path.{◌≡◌, sym, ap, ◌∙◌}
+use mathlib.Core.Path.{◌≡◌, refl, sym, ap, ◌∙◌}
 use mathlib.Core.Bool.{false}
-use mathlib.Core.List.{List, ◌∷◌}
-use Prim.Native.Nat.{ℕ, suc, ◌+◌, ◌-◌, ◌/◌, ◌%◌, ◌<◌, ◌≤◌}
+use mathlib.Core.List.{List, [], ◌∷◌}
+use Prim.Native.Nat.{ℕ, zero, suc, ◌+◌, ◌-◌, ◌*◌, ◌/◌, ◌%◌, ◌<◌, ◌≤◌}
+use native.Mathlib.Nat.{add-zero, add_assoc}
+use Rattle.std.specs.Int.{w64, from_le_bytes}
+use Rattle.std.specs.Simd.{first_chunks}
 use native.Mathlib.Omega.{arith}
-use lib.ListN.{length}
+use lib.ListN.{length, get_or, take, drop, length-drop}
+use lib.Seq.{get_or-take, get_or-drop, take_all}
+use Rattle.std.proofs.lemmas.List.{drop-drop}
 use lib.Dec.{eqb, ltb}
 use borrow.Author.Tests.{eq-eqb, ne_eqb, lt-ltb, le-ltb}
 use Rattle.names.specs.Lists.{same}
@@ -18,63 +23,102 @@ use Rattle.names.proofs.Tests.{by_cases}
 use Rattle.names.proofs.Lists.{same_true}
 use Rattle.names.proofs.Scans.{scan-same}
 
--- ---- the loop over the eights of a name: what is left to mix, from i on
-pub record Mixing (f : List ℕ) (i h : ℕ) : Type 0 where
-  pub within : i ≤ length f
-  pub rest : mixed_from (length f / 8) f 0 0 ≡ mixed_from ((length f - i) / 8) f i h
+-- ---- eight bytes as a number: its halves are two of four bytes
+pub low_half : (f : List ℕ) → ((i : ℕ) → get_or f i 0 < 256) → from_le_bytes w64 f % 4294967296 ≡ four_at f 0
+unfolding four_at
+low_half f b = omega (arith, b 0, b 1, b 2, b 3, b 4, b 5, b 6, b 7)
+
+pub high_half : (f : List ℕ) → ((i : ℕ) → get_or f i 0 < 256) → from_le_bytes w64 f / 4294967296 ≡ four_at f 4
+unfolding four_at
+high_half f b = omega (arith, b 0, b 1, b 2, b 3, b 4, b 5, b 6, b 7)
+
+-- ---- the loop over the eights of a name: what is left to mix, from the eight k on
+four-inside : (f : List ℕ) (i k : ℕ) → k + 4 ≤ 8 → four_at (take 8 (drop i f)) k ≡ four_at f (i + k)
+unfolding four_at
+four-inside f i k h =
+    let at : (j : ℕ) → j < 8 → get_or (take 8 (drop i f)) j 0 ≡ get_or f (i + j) 0 = (λ j l. get_or-take 8 (drop i f) j 0 l ∙ get_or-drop i f j 0) in
+    rw (at k (omega arith), at (k + 1) (omega arith), at (k + 2) (omega arith), at (k + 3) (omega arith), add_assoc i k 1, add_assoc i k 2, add_assoc i k 3)
+
+mixed-here : (f : List ℕ) (i h : ℕ) → mixed h (four_at (take 8 (drop i f)) 0) (four_at (take 8 (drop i f)) 4) ≡ mixed h (four_at f i) (four_at f (i + 4))
+mixed-here f i h = rw (four-inside f i 0 (omega arith), four-inside f i 4 (omega arith), add-zero)
+
+chunk_at : (f : List ℕ) (n k : ℕ) → k < n → get_or (first_chunks 8 n f) k [] ≡ take 8 (drop (k * 8) f)
+chunk_at f zero k h = absurd (omega arith)
+chunk_at f (suc n) zero h = refl
+chunk_at f (suc n) (suc k) h = chunk_at (drop 8 f) n k (omega arith) ∙ ap (take 8) (drop-drop (k * 8) 8 f ∙ ap (λ (i : ℕ). drop i f) (omega arith))
+
+pub record Mixing (f : List ℕ) (k h : ℕ) : Type 0 where
+  pub within : k ≤ length f / 8
+  pub rest : mixed_from (length f / 8) f 0 0 ≡ mixed_from (length f / 8 - k) f (k * 8) h
 
 pub mixing-start : (f : List ℕ) → Mixing f 0 0
-mixing-start f = record { within = omega arith; rest = ap (λ (n : ℕ). mixed_from (n / 8) f 0 0) (omega arith) }
+mixing-start f = record { within = omega arith; rest = ap (λ (n : ℕ). mixed_from n f 0 0) (omega arith) }
 
-mixed-more : (n : ℕ) (f : List ℕ) (i h : ℕ) → 8 ≤ n - i → mixed_from ((n - i) / 8) f i h ≡ mixed_from ((n - (i + 8)) / 8) f (i + 8) (mixed h (four_at f i) (four_at f (i + 4)))
+mixed-more : (n k : ℕ) (f : List ℕ) (h : ℕ) → k < n
+    → mixed_from (n - k) f (k * 8) h ≡ mixed_from (n - (k + 1)) f ((k + 1) * 8) (mixed h (four_at f (k * 8)) (four_at f (k * 8 + 4)))
 unfolding mixed_from
-mixed-more n f i h l = ap (λ (k : ℕ). mixed_from k f i h) (less (n - i) (n - (i + 8)) (omega arith))
-  where
-    less : (a b : ℕ) → a ≡ b + 8 → a / 8 ≡ suc (b / 8)
-    less a b e = omega arith
+mixed-more n k f h l =
+    ap (λ (m : ℕ). mixed_from m f (k * 8) h) (let P : n - k ≡ suc (n - (k + 1)) = omega arith in P)
+    ∙ ap (λ (i : ℕ). mixed_from (n - (k + 1)) f i (mixed h (four_at f (k * 8)) (four_at f (k * 8 + 4)))) (omega arith)
 
-pub mixing-more : {f : List ℕ} {i h h' : ℕ} → Mixing f i h → 8 ≤ length f - i → h' ≡ mixed h (four_at f i) (four_at f (i + 4)) → Mixing f (i + 8) h'
-mixing-more {f} {i} {h} {h'} m l e = record {
-  within = omega arith;
-  rest = m.rest ∙ (mixed-more (length f) f i h l ∙ ap (mixed_from ((length f - (i + 8)) / 8) f (i + 8)) (sym e));
-}
+pub mixing-more : {f : List ℕ} {k h h' : ℕ} (e : List ℕ) → Mixing f k h → k < length f / 8 → e ≡ get_or (first_chunks 8 (length f / 8) f) k []
+    → h' ≡ mixed h (four_at e 0) (four_at e 4) → Mixing f (k + 1) h'
+mixing-more {f} {k} {h} {h'} e m l is made =
+    let at : e ≡ take 8 (drop (k * 8) f) = is ∙ chunk_at f (length f / 8) k l in
+    let new : h' ≡ mixed h (four_at f (k * 8)) (four_at f (k * 8 + 4)) = made ∙ (ap (λ (x : List ℕ). mixed h (four_at x 0) (four_at x 4)) at ∙ mixed-here f (k * 8) h) in
+    record {
+      within = omega arith;
+      rest = m.rest ∙ (mixed-more (length f / 8) k f h l ∙ ap (mixed_from (length f / 8 - (k + 1)) f ((k + 1) * 8)) (sym new));
+    }
 
-pub mixing-done : {f : List ℕ} {i h : ℕ} → Mixing f i h → length f - i < 8 → h ≡ mixed_from (length f / 8) f 0 0
+pub mixing-done : {f : List ℕ} {k h : ℕ} → Mixing f k h → k ≡ length f / 8 → h ≡ mixed_from (length f / 8) f 0 0
 unfolding mixed_from
-mixing-done {f} {i} {h} m l = sym (m.rest ∙ ap (λ (k : ℕ). mixed_from k f i h) (none (length f - i) l))
-  where
-    none : (a : ℕ) → a < 8 → a / 8 ≡ 0
-    none a l = omega arith
+mixing-done {f} {k} {h} m e = sym (m.rest ∙ ap (λ (n : ℕ). mixed_from n f (k * 8) h) (let P : length f / 8 - k ≡ 0 = omega arith in P))
 
 pub hash-short : (f : List ℕ) → length f < 8 → 0 ≡ hash_of f
 unfolding hash_of
 hash-short f l = rw (lt-ltb (length f) 8 l)
 
-pub hash-long : (f : List ℕ) {h low high r : ℕ} → 8 ≤ length f → h ≡ mixed_from (length f / 8) f 0 0 → low ≡ four_at f (length f - 8) → high ≡ four_at f (length f - 4)
-    → r ≡ mixed h low high → r % 4294967296 ≡ hash_of f
+pub hash-long : (f : List ℕ) {e : List ℕ} {h r : ℕ} → 8 ≤ length f → h ≡ mixed_from (length f / 8) f 0 0 → e ≡ drop (length f - 8) f
+    → r ≡ mixed h (four_at e 0) (four_at e 4) → r % 4294967296 ≡ hash_of f
 unfolding hash_of
-hash-long f l p q u e = rw (e, p, q, u, le-ltb (length f) 8 l)
+hash-long f {e} {h} l p q u =
+    let s : length f - 8 + 4 ≡ length f - 4 = omega arith in
+    let t : e ≡ take 8 (drop (length f - 8) f) = q ∙ sym (take_all 8 (drop (length f - 8) f) (rw (length-drop (length f - 8) f) (omega arith))) in
+    rw (u, t, mixed-here f (length f - 8) h, s, p, le-ltb (length f) 8 l)
 
 -- ---- keys in front of names
-pub before-key : {k m : ℕ} (xs ys : List ℕ) → (k ≡ m → ⊥) → ltb k m ≡ before (k ∷ xs) (m ∷ ys)
+-- of an entry e, which has the key k
+pub before-key : {k m : ℕ} {e xs : List ℕ} (ys : List ℕ) → e ≡ k ∷ xs → (k ≡ m → ⊥) → ltb k m ≡ before e (m ∷ ys)
 unfolding before
-before-key {k} {m} xs ys n = rw (ne_eqb k m n)
+before-key {k} {m} ys e n = rw (e, ne_eqb k m n)
 
-pub before-name : {k m : ℕ} (xs ys : List ℕ) → k ≡ m → before xs ys ≡ before (k ∷ xs) (m ∷ ys)
+pub before-name : {k m x : ℕ} {e xs : List ℕ} (ys : List ℕ) → x ∷ xs ≡ e → k ≡ x → k ≡ m → before xs ys ≡ before e (m ∷ ys)
 unfolding before
-before-name {k} {m} xs ys e = rw (eq-eqb k m e)
+before-name {k} {m} {x} ys e q f = rw (← e, ← q, eq-eqb k m f)
 
-pub same_key : {k m : ℕ} (xs ys : List ℕ) → (k ≡ m → ⊥) → false ≡ same (k ∷ xs) (m ∷ ys)
-same_key {k} {m} xs ys n = rw (ne_eqb k m n)
+pub same_key : {k m : ℕ} {e xs : List ℕ} (ys : List ℕ) → e ≡ k ∷ xs → (k ≡ m → ⊥) → false ≡ same e (m ∷ ys)
+same_key {k} {m} ys e n = rw (e, ne_eqb k m n)
 
-pub same_name : {k m : ℕ} (xs ys : List ℕ) → k ≡ m → same xs ys ≡ same (k ∷ xs) (m ∷ ys)
-same_name {k} {m} xs ys e = rw (eq-eqb k m e)
+pub same_name : {k m x : ℕ} {e xs : List ℕ} (ys : List ℕ) → x ∷ xs ≡ e → k ≡ x → k ≡ m → same xs ys ≡ same e (m ∷ ys)
+same_name {k} {m} {x} ys e q f = rw (← e, ← q, eq-eqb k m f)
+
+-- of two entries
+pub before-names : {x y : ℕ} {xs ys e f : List ℕ} → x ∷ xs ≡ e → y ∷ ys ≡ f → x ≡ y → before xs ys ≡ before e f
+unfolding before
+before-names {x} {y} e f k = rw (← e, ← f, eq-eqb x y k)
+
+pub same_keys : {x y : ℕ} {xs ys e f : List ℕ} → e ≡ x ∷ xs → f ≡ y ∷ ys → (x ≡ y → ⊥) → false ≡ same e f
+same_keys {x} {y} e f n = rw (e, f, ne_eqb x y n)
+
+pub same-names : {x y : ℕ} {xs ys e f : List ℕ} → x ∷ xs ≡ e → y ∷ ys ≡ f → x ≡ y → same xs ys ≡ same e f
+same-names {x} {y} e f k = rw (← e, ← f, eq-eqb x y k)
 
 -- names that agree have keys that agree: the keys say nothing of their own
 pub same-keyed : {k m : ℕ} (xs ys : List ℕ) → (xs ≡ ys → k ≡ m) → same (k ∷ xs) (m ∷ ys) ≡ same xs ys
 same-keyed {k} {m} xs ys f =
     by_cases (same xs ys)
-    (λ e. sym (same_name xs ys (f (same_true xs ys e))))
+    (λ e. sym (same_name {k = k} ys refl refl (f (same_true xs ys e))))
     (λ e. by_cases (eqb k m) (λ h. rw h) (λ h. rw (h, e)))
 
 module _ (keys s : List ℕ) (l : Layout) (n : ℕ) (h : Hashed keys (name_of s l) n) where

@@ -1,5 +1,5 @@
 -- The laws of the index of names, for this floor and those above.
 pub mod Sorted
-pub mod Merging
+pub mod Positions
 pub mod Finds
 pub mod Hashing

@@ -1,23 +1,29 @@
--- What holds of the positions in order: each is there, each below n, and each stands before the later ones; and what merging
--- two runs of them gives. Assumes nothing.
+-- What holds of the positions in order: each is there, each below n, and each stands before the later ones; and a sort of the positions gives that list.
+-- Assumes nothing.
+use Rattle.std.specs.Prelude.{Bool, not, cond, ◌&&◌}
 use mathlib.Core.Path.{◌≡◌, refl, sym, ap, ◌∙◌, subst}
 use mathlib.Core.Logic.{inl, inr, ⊎_elim}
 use mathlib.Core.Bool.{true, false}
-use mathlib.Core.List.{List, [], ◌∷◌, ◌++◌}
-use Prim.Native.Nat.{ℕ, zero, suc, ◌+◌, ◌-◌, ◌<◌, ◌≤◌}
+use mathlib.Core.List.{List, [], ◌∷◌}
+use Prim.Native.Nat.{ℕ, zero, suc, ◌+◌, ◌<◌, ◌≤◌}
 use native.Mathlib.Omega.{arith}
-use native.Mathlib.Nat.{add-zero, add-suc, add_assoc, zero-add}
-use lib.ListN.{length, get_or, take, drop, get_or-append}
-use lib.Seq.{get_or-take, get_or-append-add}
-use lib.Dec.{eqb}
-use borrow.Author.Tests.{eqb-true, eqb-false}
+use native.Mathlib.Nat.{add-zero, zero-add}
+use lib.ListN.{length, get_or}
+use lib.Dec.{eqb, ltb}
+use borrow.Author.Tests.{eq-eqb, ne_eqb, eqb-true, eqb-false, le-ltb, ltb-true, ltb-false}
+use Rattle.std.specs.Cmp.{IsStrictWeakOrder}
+use Rattle.std.specs.List.{sum_by}
+use Rattle.std.specs.List.Sorted.{IsPermutation, IsSortedBy}
+use Rattle.std.proofs.lemmas.List.Sums.{sum_by-cons}
+use Rattle.std.proofs.lemmas.List.Sorted.{sorted_far, sum_by-IsPermutation}
 use Rattle.names.specs.Lists.{In}
 use Rattle.names.specs.Order.{before}
-use Rattle.name_index.specs.Index.{insert, ordered, Below}
-use Rattle.name_index.specs.Steps.{between, merged}
-use Rattle.names.proofs.Tests.{by_cases, not-both, apart, three}
-use Rattle.names.proofs.Lists.{at-cons, in-get_or}
-use Rattle.names.proofs.Orders.{le_trans, asym, irreflexive, lt-le}
+use Rattle.names.specs.Scans.{table, table_from}
+use Rattle.name_index.specs.Index.{insert, ordered}
+use Rattle.name_index.specs.Positions.{stands}
+use Rattle.names.proofs.Tests.{by_cases, not-both, apart, and_left, and_right, or-none-left}
+use Rattle.names.proofs.Lists.{in-get_or}
+use Rattle.names.proofs.Orders.{le_trans, asym, antisym, irreflexive, lt-le}
 
 abbrev pub All : (ℕ → Type 0) → List ℕ → Type 0
 All P [] = Unit
@@ -31,6 +37,54 @@ all-at : (P : ℕ → Type 0) (xs : List ℕ) (k : ℕ) → All P xs → k < len
 all-at P [] k h l = absurd (omega arith)
 all-at P (x ∷ xs) zero h l = h.0
 all-at P (x ∷ xs) (suc k) h l = all-at P xs k h.1 (omega arith)
+
+-- the sum of what g gives for each, element by element
+abbrev total : (ℕ → ℕ) → List ℕ → ℕ
+total g [] = 0
+total g (x ∷ xs) = g x + total g xs
+
+total-is : (g : ℕ → ℕ) (xs : List ℕ) → sum_by g xs ≡ total g xs
+total-is g [] = refl
+total-is g (x ∷ xs) = sum_by-cons g x xs ∙ ap (λ (k : ℕ). g x + k) (total-is g xs)
+
+-- 1 where the numbers are the same
+unfoldable one : ℕ → ℕ → ℕ
+one q x = cond (eqb x q) 1 0
+
+one-same : (x : ℕ) → one x x ≡ 1
+unfolding one
+one-same x = rw (eq-eqb x x refl)
+
+one_other : (q x : ℕ) → eqb q x ≡ false → one q x ≡ 0
+unfolding one
+one_other q x e = rw (ne_eqb x q (λ z. eqb-false q x e (sym z)))
+
+-- what holds of each element holds of a number that the list has
+all-counted : (P : ℕ → Type 0) (xs : List ℕ) (q : ℕ) → All P xs → 0 < total (one q) xs → P q
+unfolding one
+all-counted P [] q h l = absurd (omega arith)
+all-counted P (x ∷ xs) q h l =
+    by_cases (eqb x q) (λ e. subst P (eqb-true x q e) h.0) (λ e. all-counted P xs q h.1 (let m = rw e at l in omega arith))
+
+at-all : (P : ℕ → Type 0) (xs : List ℕ) → ((k : ℕ) → k < length xs → P (get_or xs k 0)) → All P xs
+at-all P [] h = tt
+at-all P (x ∷ xs) h = (h 0 (omega arith), at-all P xs (λ k l. h (suc k) (omega arith)))
+
+cons-eq : {x y : ℕ} {xs ys : List ℕ} → x ≡ y → xs ≡ ys → x ∷ xs ≡ y ∷ ys
+cons-eq e f = rw (e, f)
+
+not-not : (b : Bool) → not b ≡ true → b ≡ false
+not-not true e = sym e
+not-not false e = refl
+
+table-snoc : (g : ℕ → ℕ) (from n : ℕ) → total g (table_from (λ p. p) from (suc n)) ≡ total g (table_from (λ p. p) from n) + g (from + n)
+unfolding table_from
+table-snoc g from zero = let k : g (from + 0) ≡ g from = ap g (add-zero from) in omega arith
+table-snoc g from (suc n) =
+    let h = table-snoc g (suc from) n in
+    let e : suc from + n ≡ from + suc n = omega arith in
+    let k : g (suc from + n) ≡ g (from + suc n) = ap g e in
+    omega arith
 
 module _ (name : ℕ → List ℕ) where
   -- p stands before q in the index
@@ -71,6 +125,11 @@ module _ (name : ℕ → List ℕ) where
   length-insert p [] = refl
   length-insert p (q ∷ qs) = by_cases (before (name p) (name q)) (λ e. rw e) (λ e. rw e (ap suc (length-insert p qs)))
 
+  insert-counts : (g : ℕ → ℕ) (p : ℕ) (xs : List ℕ) → total g (insert name p xs) ≡ total g xs + g p
+  unfolding insert
+  insert-counts g p [] = omega arith
+  insert-counts g p (q ∷ qs) = by_cases (before (name p) (name q)) (λ e. rw e (omega arith)) (λ e. rw e (let h = insert-counts g p qs in omega arith))
+
   first-stands : (p q : ℕ) → before (name p) (name q) ≡ true → StandsAt p q
   first-stands p q h = (asym (name p) (name q) h, λ e. not-both (rw e at h) (irreflexive (name q)))
 
@@ -107,92 +166,129 @@ module _ (name : ℕ → List ℕ) where
       (λ e. subst (λ (x : ℕ). In (from + x) (insert name (from + n) (ordered name from n))) (sym (eqb-true q n e)) (insert-new (from + n) (ordered name from n)))
       (λ e. insert-old (from + n) (from + q) (ordered name from n) (ordered-in from n q (apart (omega arith) (eqb-false q n e))))
 
-  pub ordered-below : (from m n : ℕ) → from + m ≤ n → Below n (ordered name from m)
-  ordered-below from m n h k l = let b = all-at (λ q. q < from + m) (ordered name from m) k (ordered-all from m) l in omega arith
-
   -- ---- an index, place by place
   pub record Ranked (n : ℕ) (xs : List ℕ) : Type 0 where
+    pub long : length xs ≡ n
     pub below : (k : ℕ) → k < n → get_or xs k 0 < n
     pub rising : (i j : ℕ) → i < j → j < n → StandsAt (get_or xs i 0) (get_or xs j 0)
     pub has : (q : ℕ) → q < n → (k : ℕ) × (k < n) × (get_or xs k 0 ≡ q)
 
-  pub ranked : (n : ℕ) (xs : List ℕ) → take n xs ≡ ordered name 0 n → Ranked n xs
-  ranked n xs e =
+  ranked-ordered : (n : ℕ) → Ranked n (ordered name 0 n)
+  ranked-ordered n =
       let len = ordered-length 0 n in
-      let at : (k : ℕ) → k < n → get_or (ordered name 0 n) k 0 ≡ get_or xs k 0 = (λ k h. ap (λ (l : List ℕ). get_or l k 0) (sym e) ∙ get_or-take n xs k 0 h) in
       record {
-        below = λ k h. let b = all-at (λ q. q < 0 + n) (ordered name 0 n) k (ordered-all 0 n) (omega arith) in omega (arith, at k h);
-        rising = λ i j h l.
-            subst (λ (x : ℕ). StandsAt x (get_or xs j 0)) (at i (omega arith))
-            (subst (λ (x : ℕ). StandsAt (get_or (ordered name 0 n) i 0) x) (at j l) (rises-at (ordered name 0 n) i j (ordered-rises 0 n) h (omega arith)));
+        long = len;
+        below = λ k h. let b = all-at (λ q. q < 0 + n) (ordered name 0 n) k (ordered-all 0 n) (omega arith) in omega arith;
+        rising = λ i j h l. rises-at (ordered name 0 n) i j (ordered-rises 0 n) h (omega arith);
         has = λ q h.
             let r = in-get_or (ordered name 0 n) (0 + q) 0 (ordered-in 0 n q h) in
-            let l : r.0 < n = omega (arith, r.1.0) in
-            (r.0, l, sym (at r.0 l) ∙ (sym r.1.1 ∙ zero-add q));
+            (r.0, omega (arith, r.1.0), sym r.1.1 ∙ zero-add q);
       }
 
-  -- ---- two runs merged
-  module _ (p : ℕ) (a : ℕ) (f : List ℕ → List ℕ) (ih : (ys : List ℕ) → insert name p (f ys) ≡ f (insert name p ys)) where
-    insert-between : (ys : List ℕ) → insert name p (between name a f ys) ≡ between name a f (insert name p ys)
-    unfolding insert between
-    insert-between [] = by_cases (before (name p) (name a)) (λ e. rw e) (λ e. rw e (ap (λ (l : List ℕ). a ∷ l) (ih [])))
-    insert-between (b ∷ ys) =
-        by_cases (before (name b) (name a))
-        (λ ba.
-        by_cases (before (name p) (name b))
-        (λ pb. let pa = lt-le (name p) (name b) (name a) pb (asym (name b) (name a) ba) in rw (ba, pb, pa, ba))
-        (λ pb. rw (ba, pb, ba) (ap (λ (l : List ℕ). b ∷ l) (insert-between ys))))
-        (λ ba.
-        by_cases (before (name p) (name b))
-        (λ pb.
-        by_cases (before (name p) (name a))
-        (λ pa. rw (ba, pa, pb, pa, ba))
-        (λ pa. rw (ba, pa, pb, pa) (ap (λ (l : List ℕ). a ∷ l) (rw pb at (ih (b ∷ ys))))))
-        (λ pb.
-        let pa = le_trans (name a) (name b) (name p) ba pb in
-        rw (ba, pa, pb, ba) (ap (λ (l : List ℕ). a ∷ l) (rw pb at (ih (b ∷ ys))))))
+  pub ranked : {n : ℕ} {xs : List ℕ} → xs ≡ ordered name 0 n → Ranked n xs
+  ranked {n} {xs} e = subst (λ (l : List ℕ). Ranked n l) (sym e) (ranked-ordered n)
 
-  insert-merged : (p : ℕ) (xs ys : List ℕ) → insert name p (merged name xs ys) ≡ merged name xs (insert name p ys)
-  unfolding merged
-  insert-merged p [] ys = refl
-  insert-merged p (a ∷ xs) ys = insert-between p a (merged name xs) (insert-merged p xs) ys
+  -- ---- how often a list has each number: those in order have what the positions have
+  ordered-counts : (g : ℕ → ℕ) (from n : ℕ) → total g (table_from (λ p. p) from n) ≡ total g (ordered name from n)
+  unfolding ordered table_from
+  ordered-counts g from zero = refl
+  ordered-counts g from (suc n) =
+      table-snoc g from n ∙ (ap (λ (k : ℕ). k + g (from + n)) (ordered-counts g from n) ∙ sym (insert-counts g (from + n) (ordered name from n)))
 
-  pub merged-none : (xs : List ℕ) → merged name xs [] ≡ xs
-  unfolding merged between
-  merged-none [] = refl
-  merged-none (a ∷ xs) = ap (λ (l : List ℕ). a ∷ l) (merged-none xs)
+  -- ---- the list of a sort: no element stands before an earlier one
+  abbrev Sorted : List ℕ → Type 0
+  Sorted [] = Unit
+  Sorted (x ∷ xs) = All (λ y. stands name y x ≡ false) xs × Sorted xs
 
-  pub ordered-merged : (from h m : ℕ) → merged name (ordered name from h) (ordered name (from + h) m) ≡ ordered name from (h + m)
+  stands-later : (x y : ℕ) → StandsAt x y → stands name y x ≡ false
+  unfolding stands
+  stands-later x y s =
+      by_cases (before (name x) (name y))
+      (λ e. rw (s.0, e))
+      (λ e. rw (s.0, e, le-ltb y x (let h = s.1 (antisym (name x) (name y) s.0 e) in omega arith)))
+
+  rises-sorted : (xs : List ℕ) → Rises xs → Sorted xs
+  rises-sorted [] r = tt
+  rises-sorted (x ∷ xs) r = (all_map xs (λ y s. stands-later x y s) r.0, rises-sorted xs r.1)
+
+  none-before : (x y : ℕ) → stands name x y ≡ false → before (name x) (name y) ≡ false
+  unfolding stands
+  none-before x y e = or-none-left _ _ e
+
+  -- of two of one name the first is the lower
+  not-higher : (x y : ℕ) → stands name x y ≡ false → before (name y) (name x) ≡ false → y ≤ x
+  unfolding stands
+  not-higher x y e h = ltb-false x y (rw (none-before x y e, h) at e)
+
+  stands-antisym : (x y : ℕ) → stands name x y ≡ false → stands name y x ≡ false → x ≡ y
+  stands-antisym x y e f =
+      let a = not-higher x y e (none-before y x f) in
+      let b = not-higher y x f (none-before x y e) in
+      omega arith
+
+  -- two such lists that have each number as often are one
+  unique : (xs ys : List ℕ) → Sorted xs → Sorted ys → ((q : ℕ) → total (one q) xs ≡ total (one q) ys) → xs ≡ ys
+  unique [] [] r s h = refl
+  unique [] (y ∷ ys) r s h = absurd (omega (arith, h y, one-same y))
+  unique (x ∷ xs) [] r s h = absurd (omega (arith, h x, one-same x))
+  unique (x ∷ xs) (y ∷ ys) r s h =
+      let e : x ≡ y =
+      by_cases (eqb x y) (λ t. eqb-true x y t)
+      (λ t.
+      let a = one_other x y t in
+      let b = one_other y x (ne_eqb y x (λ z. eqb-false x y t (sym z))) in
+      let f = one-same x in
+      let g = one-same y in
+      let hx = h x in
+      let hy = h y in
+      stands-antisym x y (all-counted (λ z. stands name z y ≡ false) ys x s.0 (omega arith)) (all-counted (λ z. stands name z x ≡ false) xs y r.0 (omega arith))) in
+      cons-eq e (unique xs ys r.1 s.1 (λ q. let hq = h q in let f : one q x ≡ one q y = ap (one q) e in omega arith))
+
+  far-sorted : (xs : List ℕ) → ((i j : ℕ) → i ≤ j → j < length xs → stands name (get_or xs j 0) (get_or xs i 0) ≡ false) → Sorted xs
+  far-sorted [] h = tt
+  far-sorted (x ∷ xs) h = (at-all (λ y. stands name y x ≡ false) xs (λ k l. h 0 (suc k) (omega arith) (omega arith)), far-sorted xs (λ i j u v. h (suc i) (suc j) (omega arith) (omega arith)))
+
+  one-way : (x y : ℕ) → stands name x y ≡ true → stands name y x ≡ false
+  unfolding stands
+  one-way x y e =
+      by_cases (before (name x) (name y))
+      (λ b. rw (asym (name x) (name y) b, b))
+      (λ b.
+      let t : not (before (name y) (name x)) && ltb x y ≡ true = rw b at e in
+      rw (not-not (before (name y) (name x)) (and_left (not (before (name y) (name x))) (ltb x y) t), b, le-ltb y x (let l = ltb-true x y (and_right (not (before (name y) (name x))) (ltb x y) t) in omega arith)))
+
+  chained : (x y z : ℕ) → stands name x y ≡ false → stands name y z ≡ false → stands name x z ≡ false
+  unfolding stands
+  chained x y z e f =
+      let a = le_trans (name z) (name y) (name x) (none-before y z f) (none-before x y e) in
+      by_cases (before (name z) (name x))
+      (λ b. rw (a, b))
+      (λ b.
+      let u = not-higher x y e (le_trans (name x) (name z) (name y) b (none-before y z f)) in
+      let v = not-higher y z f (le_trans (name y) (name x) (name z) (none-before x y e) b) in
+      rw (a, b, le-ltb x z (omega arith)))
+
+  pub stands-order : IsStrictWeakOrder (stands name)
+  stands-order = record { one_way = one-way; chain = chained }
+
+  -- a sort of the positions by that order
+  pub sorted-is : (n : ℕ) {xs ys : List ℕ} → xs ≡ table (λ p. p) n → IsPermutation xs ys → IsSortedBy (stands name) ys → ys ≡ ordered name 0 n
+  unfolding table
+  sorted-is n {xs} {ys} e m s =
+      unique ys (ordered name 0 n) (far-sorted ys (λ i j u v. sorted_far (stands name) stands-order ys s i j 0 u v)) (rises-sorted (ordered name 0 n) (ordered-rises 0 n))
+      (λ q. sym (total-is (one q) ys) ∙ (sum_by-IsPermutation (one q) xs ys m ∙ (total-is (one q) xs ∙ (ap (total (one q)) e ∙ ordered-counts (one q) 0 n))))
+
+-- the order looks only at the names that are there
+module _ (name other : ℕ → List ℕ) where
+  insert-cong : (p : ℕ) (xs : List ℕ) → name p ≡ other p → All (λ q. name q ≡ other q) xs → insert name p xs ≡ insert other p xs
+  unfolding insert
+  insert-cong p [] e a = refl
+  insert-cong p (q ∷ qs) e a =
+      by_cases (before (other p) (other q)) (λ b. rw (e, a.0, b)) (λ b. rw (e, a.0, b) (ap (λ (l : List ℕ). q ∷ l) (insert-cong p qs e a.1)))
+
+  pub ordered-cong : (n : ℕ) → ((p : ℕ) → p < n → name p ≡ other p) → ordered name 0 n ≡ ordered other 0 n
   unfolding ordered
-  ordered-merged from h zero = rw add-zero (merged-none (ordered name from h))
-  ordered-merged from h (suc m) =
-      sym (insert-merged (from + h + m) (ordered name from h) (ordered name (from + h) m))
-      ∙ rw (add-suc, add_assoc) (ap (insert name (from + (h + m))) (ordered-merged from h m))
-
-  -- two runs of which the second does not begin before the first's end
-  merged-after : (xs : List ℕ) (y : ℕ) (ys : List ℕ) → ((k : ℕ) → k < length xs → before (name y) (name (get_or xs k 0)) ≡ false) → merged name xs (y ∷ ys) ≡ xs ++ (y ∷ ys)
-  unfolding merged between
-  merged-after [] y ys h = refl
-  merged-after (x ∷ xs) y ys h = rw (h 0 (omega arith)) (ap (λ (r : List ℕ). x ∷ r) (merged-after xs y ys (λ k l. h (suc k) (omega arith))))
-
-  pub ordered-joined : (from h m : ℕ) → 0 < h → 0 < m
-      → (let both = ordered name from h ++ ordered name (from + h) m in before (name (get_or both h 0)) (name (get_or both (h - 1) 0)) ≡ false)
-      → ordered name from h ++ ordered name (from + h) m ≡ ordered name from (h + m)
-  ordered-joined from h m o p e =
-      let xs = ordered name from h in
-      let ys = ordered name (from + h) m in
-      let lx : length xs ≡ h = ordered-length from h in
-      let ly : length ys ≡ m = ordered-length (from + h) m in
-      let cut : ys ≡ get_or ys 0 0 ∷ drop 1 ys = at-cons ys 0 (omega arith) in
-      let first : get_or (xs ++ ys) h 0 ≡ get_or ys 0 0 = ap (λ (k : ℕ). get_or (xs ++ ys) k 0) (sym (add-zero h) ∙ ap (λ (k : ℕ). k + 0) (sym lx)) ∙ get_or-append-add xs ys 0 0 in
-      let last : get_or (xs ++ ys) (h - 1) 0 ≡ get_or xs (h - 1) 0 = get_or-append xs ys 0 (h - 1) (omega arith) in
-      let d : before (name (get_or ys 0 0)) (name (get_or xs (h - 1) 0)) ≡ false = sym (ap (λ (k : ℕ). before (name (get_or ys 0 0)) (name k)) last) ∙ (sym (ap (λ (k : ℕ). before (name k) (name (get_or (xs ++ ys) (h - 1) 0))) first) ∙ e) in
-      let after : (k : ℕ) → k < length xs → before (name (get_or ys 0 0)) (name (get_or xs k 0)) ≡ false =
-      (λ k l.
-      three k (h - 1)
-      (λ u. le_trans (name (get_or xs k 0)) (name (get_or xs (h - 1) 0)) (name (get_or ys 0 0)) (rises-at xs k (h - 1) (ordered-rises from h) u (omega arith)).0 d)
-      (λ u. rw u d)
-      (λ u. absurd (omega arith))) in
-      ap (λ (r : List ℕ). xs ++ r) cut
-      ∙ (sym (merged-after xs (get_or ys 0 0) (drop 1 ys) after)
-      ∙ (ap (merged name xs) (sym cut) ∙ ordered-merged from h m))
+  ordered-cong zero h = refl
+  ordered-cong (suc n) h =
+      insert-cong (0 + n) (ordered name 0 n) (h (0 + n) (omega arith)) (all_map (ordered name 0 n) (λ q l. h q (omega arith)) (ordered-all name 0 n))
+      ∙ ap (insert other (0 + n)) (ordered-cong n (λ p l. h p (omega arith)))

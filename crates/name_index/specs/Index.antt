@@ -20,15 +20,6 @@ pub record Whole (s : List ℕ) (l : Layout) (n : ℕ) : Type 0 where
   pub inside : l.first + l.width ≤ l.stride
   pub room : n * l.stride ≤ length s
 
--- and each has a key
-pub record Keyed (keys s : List ℕ) (l : Layout) (n : ℕ) : Type 0 where
-  pub whole : Whole s l n
-  pub enough : n ≤ length keys
-
--- each position of the list is below n
-abbrev pub Below : ℕ → List ℕ → Type 0
-Below n xs = (k : ℕ) → k < length xs → get_or xs k 0 < n
-
 module _ (name : ℕ → List ℕ) where
   -- position p put in, after each whose name does not come after p's
   unfoldable pub insert : ℕ → List ℕ → List ℕ
@@ -43,12 +34,6 @@ module _ (name : ℕ → List ℕ) where
 -- the name of position p stands at an earlier one too
 unfoldable pub is_repeat : (ℕ → List ℕ) → ℕ → Bool
 is_repeat name p = is_some (scan (λ q. same (name q) (name p)) p)
-
--- the first n places of the lent index hold the index of the n records
-pub record Indexes (keys s : List ℕ) (l : Layout) (n : ℕ) (index : List ℕ) : Type 0 where
-  pub keyed : Keyed keys s l n
-  pub enough : n ≤ length index
-  pub order : take n index ≡ ordered (keyed_name keys s l) 0 n
 
 -- each key is the number of its record's name
 abbrev pub Hashed : List ℕ → (ℕ → List ℕ) → ℕ → Type 0

@@ -1,4 +1,4 @@
 -- What the promises of the index of names cite.
 pub mod Hash
 pub mod Index
-pub mod Steps
+pub mod Positions

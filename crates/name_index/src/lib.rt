@@ -1,14 +1,16 @@
-// An index of names: positions of equally long records in order of their keys, then names. It is sorted by merging, so that it
-// takes n log n comparisons on all input. For the floors above: hash, hash_names, build, find, first_repeat.
+// An index of names: the positions of equally long records in order of their keys, then of their names, then of the positions.
+// For the floors above: hash and hash_names; Records, the records with their keys; NameIndex, which build makes of them, and which answers find and first_repeat.
 #![tactic(auto)]
 
-ghost use Rattle.std.specs.Prelude.{◌≡◌, ◌∷◌, ◌++◌, ◌+◌, ◌-◌, ◌/◌, ◌≤◌, ◌<◌, length, take, drop, get_or};
+ghost use Rattle.std.specs.Prelude.{◌≡◌, ◌∷◌, ◌/◌, ◌<◌, length, get_or};
+ghost use Rattle.std.specs.Ordering.{is_lt};
 ghost use Rattle.names.specs.Lists.{same};
 ghost use Rattle.names.specs.Order.{before};
 ghost use Rattle.names.specs.Scans.{scan, table};
 ghost use Rattle.name_index.specs.Hash.{four_at, mixed, mixed_from, hash_of};
-ghost use Rattle.name_index.specs.Index.{name_of, keyed_name, Whole, Keyed, Below, Indexes, ordered, is_repeat};
-ghost use Rattle.name_index.specs.Steps.{merged, next_right, InsertionPoint};
+ghost use Rattle.name_index.specs.Index.{name_of, keyed_name, Whole, ordered, is_repeat};
+
+use std::cmp::Ordering;
 
 // Where the name stands in a record, how long a record is, and how long a name is.
 #[derive(Clone, Copy)]
@@ -18,8 +20,22 @@ pub struct Layout {
     pub width: usize,
 }
 
-// The most records that an index has.
-const MOST_RECORDS: usize = 1536;
+// Equally long records, one after the other, and the key of each.
+#[derive(Clone, Copy)]
+pub struct Records<'a> {
+    pub bytes: &'a [u8],
+    pub layout: Layout,
+    pub keys: &'a [u32],
+    pub ghost whole: { Whole bytes.now layout (length keys.now) },
+}
+
+// The records, and their positions in order.
+#[derive(Clone, Copy)]
+pub struct NameIndex<'a> {
+    pub records: Records<'a>,
+    pub order: &'a [u16],
+    pub ghost sorted: { order.now ≡ ordered (keyed_name records.keys.now records.bytes.now records.layout) 0 (length records.keys.now) },
+}
 
 // What the low and the high half of a hash's state stay below, and what each is multiplied by.
 const HALF: u64 = 4294967296;
@@ -28,18 +44,13 @@ const LOW_FACTOR: u64 = 668265263;
 
 const HIGH_FACTOR: u64 = 374761393;
 
-// Four bytes as a number.
-fn four(f: &[u8], i: usize) -> u64
-    requires { i + 4 ≤ length f.now }
-    ensures { (result ≡ four_at f.now i) × (result < 4294967296) }
+// The state after eight bytes more.
+fn mix(h: u64, eight: &[u8; 8]) -> u64
+    ensures { result ≡ mixed h (four_at eight.now 0) (four_at eight.now 4) }
 {
-    f[i] as u64 + f[i + 1] as u64 * 256 + f[i + 2] as u64 * 65536 + f[i + 3] as u64 * 16777216
-}
-
-fn mix(h: u64, low: u64, high: u64) -> u64
-    requires { (low < 4294967296) × (high < 4294967296) }
-    ensures { result ≡ mixed h low high }
-{
+    let bits = u64::from_le_bytes(*eight);
+    let low = bits % HALF;
+    let high = bits / HALF;
     (h % HALF + low) * LOW_FACTOR + (h / HALF + high) * HIGH_FACTOR
 }
 
@@ -47,11 +58,10 @@ fn mix(h: u64, low: u64, high: u64) -> u64
 fn mix_eights(f: &[u8]) -> u64
     ensures { result ≡ mixed_from (length f.now / 8) f.now 0 0 }
 {
+    let (eights, _) = f.as_chunks::<8>();
     let mut h = 0;
-    let mut i = 0;
-    while 8 <= f.len() - i {
-        h = mix(h, four(f, i), four(f, i + 4));
-        i += 8;
+    for eight in eights {
+        h = mix(h, eight);
     }
     h
 }
@@ -60,278 +70,161 @@ fn mix_eights(f: &[u8]) -> u64
 pub fn hash(f: &[u8]) -> u32
     ensures { result ≡ hash_of f.now }
 {
-    let n = f.len();
-    if n < 8 {
+    let Some(last) = f.last_chunk::<8>() else {
         return 0;
-    }
-    (mix(mix_eights(f), four(f, n - 8), four(f, n - 4)) % HALF) as u32
+    };
+    (mix(mix_eights(f), last) % HALF) as u32
 }
 
-// The name of the record at position p.
-fn name_at(bytes: &[u8], l: Layout, p: usize) -> &[u8]
-    requires { Whole bytes.now l (p + 1) }
-    ensures { result.now ≡ name_of bytes.now l p }
+// Writes the number of each record's name, a place for each record.
+pub fn hash_names(bytes: &[u8], l: Layout, keys: &mut [u32])
+    requires { Whole bytes.now l (length keys.old) }
+    ensures { keys.new ≡ table (λ p. hash_of (name_of bytes.now l p)) (length keys.old) }
 {
-    names::field_at(bytes, p * l.stride + l.first, l.width)
-}
-
-// Writes the numbers of the first n names into the first n places.
-pub fn hash_names(bytes: &[u8], l: Layout, n: usize, keys: &mut [u32])
-    requires { Keyed keys.old bytes.now l n }
-    ensures { keys.new ≡ table (λ p. hash_of (name_of bytes.now l p)) n ++ drop n keys.old }
-{
-    let mut i = 0;
-    while i < n {
-        keys[i] = hash(name_at(bytes, l, i));
-        i += 1;
+    for (p, key) in keys.iter_mut().enumerate() {
+        *key = hash(names::field_at(bytes, p * l.stride + l.first, l.width));
     }
 }
 
-// Whether the record at position p, by key and name, comes before a key and a name.
-fn comes_first(bytes: &[u8], l: Layout, keys: &[u32], p: usize, key: u32, name: &[u8]) -> bool
-    requires { Keyed keys.now bytes.now l (p + 1) }
-    ensures { result ≡ before (keyed_name keys.now bytes.now l p) (key ∷ name.now) }
-{
-    let k = keys[p];
-    if k != key {
-        return k < key;
-    }
-    names::comes_before(name_at(bytes, l, p), name)
-}
+impl<'a> Records<'a> {
+    ghost use Rattle.name_index.specs.Positions.{count, entry, total_entry, stands};
 
-// Whether the record at position p comes before the one at position q.
-fn precedes(bytes: &[u8], l: Layout, n: usize, keys: &[u32], p: usize, q: usize) -> bool
-    requires { Keyed keys.now bytes.now l n × ((p < n) × (q < n)) }
-    ensures { result ≡ before (keyed_name keys.now bytes.now l p) (keyed_name keys.now bytes.now l q) }
-{
-    comes_first(bytes, l, keys, p, keys[q], name_at(bytes, l, q))
-}
-
-// Whether the next of two runs, from i and from j on, is the second run's.
-fn next_is_right(
-    bytes: &[u8],
-    l: Layout,
-    n: usize,
-    keys: &[u32],
-    a: &[u16],
-    i: usize,
-    b: &[u16],
-    j: usize,
-) -> bool
-    requires { Keyed keys.now bytes.now l n × (Below n a.now × Below n b.now) }
-    ensures { result ≡ next_right (keyed_name keys.now bytes.now l) (drop i a.now) (drop j b.now) }
-{
-    if a.len() <= i {
-        return true;
+    // The key of the record at position p, 0 behind the last.
+    fn key(&self, p: usize) -> u32
+        ensures { result ≡ get_or self.now.keys.now p 0 }
+    {
+        if p < self.keys.len() { self.keys[p] } else { 0 }
     }
-    if b.len() <= j {
-        return false;
-    }
-    precedes(bytes, l, n, keys, b[j] as usize, a[i] as usize)
-}
 
-// Writes two runs as one.
-fn merge(bytes: &[u8], l: Layout, n: usize, keys: &[u32], a: &[u16], b: &[u16], out: &mut [u16])
-    requires { Keyed keys.now bytes.now l n × (Below n a.now × (Below n b.now × (length out.old ≡ length a.now + length b.now))) }
-    ensures { out.new ≡ merged (keyed_name keys.now bytes.now l) a.now b.now }
-{
-    let mut i = 0;
-    let mut j = 0;
-    while i + j < out.len() {
-        if next_is_right(bytes, l, n, keys, a, i, b, j) {
-            out[i + j] = b[j];
-            j += 1;
+    // The name of the record at position p, empty behind the last.
+    fn name(&self, p: usize) -> &'a [u8]
+        ensures { get_or self.now.keys.now p 0 ∷ result.now ≡ total_entry self.now p }
+    {
+        if p < self.keys.len() {
+            names::field_at(
+                self.bytes,
+                p * self.layout.stride + self.layout.first,
+                self.layout.width,
+            )
         } else {
-            out[i + j] = a[i];
-            i += 1;
+            &[]
         }
     }
-}
 
-// Writes the two runs of a list as one.
-fn merge_halves(
-    bytes: &[u8],
-    l: Layout,
-    n: usize,
-    keys: &[u32],
-    runs: &[u16],
-    h: usize,
-    out: &mut [u16],
-)
-    requires { Keyed keys.now bytes.now l n × (Below n runs.now × ((h ≤ length runs.now) × (length out.old ≡ length runs.now))) }
-    ensures { out.new ≡ merged (keyed_name keys.now bytes.now l) (take h runs.now) (drop h runs.now) }
-{
-    let a = &runs[..h];
-    let b = &runs[h..];
-    merge(bytes, l, n, keys, a, b, out);
-}
-
-fn copy(from: &[u16], to: &mut [u16])
-    requires { length from.now ≡ length to.old }
-    ensures { to.new ≡ from.now }
-{
-    let mut i = 0;
-    while i < from.len() {
-        to[i] = from[i];
-        i += 1;
-    }
-}
-
-// Two runs of a list as one, in their place; the other list is for the work.
-fn merge_back(
-    bytes: &[u8],
-    l: Layout,
-    n: usize,
-    keys: &[u32],
-    runs: &mut [u16],
-    h: usize,
-    other: &mut [u16],
-)
-    requires { Keyed keys.now bytes.now l n × (Below n runs.old × ((h ≤ length runs.old) × (length runs.old ≤ length other.old))) }
-    ensures { runs.new ≡ merged (keyed_name keys.now bytes.now l) (take h runs.old) (drop h runs.old) }
-{
-    let m = runs.len();
-    merge_halves(bytes, l, n, keys, runs, h, &mut other[..m]);
-    copy(&other[..m], runs);
-}
-
-// Whether the run from h on begins before the run in front of it ends; if not, the two are one run already.
-fn runs_overlap(bytes: &[u8], l: Layout, n: usize, keys: &[u32], runs: &[u16], h: usize) -> bool
-    requires { Keyed keys.now bytes.now l n × (Below n runs.now × ((0 < h) × (h < length runs.now))) }
-    ensures { result ≡ before (keyed_name keys.now bytes.now l (get_or runs.now h 0)) (keyed_name keys.now bytes.now l (get_or runs.now (h - 1) 0)) }
-{
-    precedes(bytes, l, n, keys, runs[h] as usize, runs[h - 1] as usize)
-}
-
-// Writes the positions from `from` on, one for each place, in order; the other list is for the work.
-fn sort(
-    bytes: &[u8],
-    l: Layout,
-    n: usize,
-    keys: &[u32],
-    from: usize,
-    index: &mut [u16],
-    other: &mut [u16],
-)
-    requires { Keyed keys.now bytes.now l n × ((from + length index.old ≤ n) × ((n ≤ 65536) × (length index.old ≤ length other.old))) }
-    ensures { index.new ≡ ordered (keyed_name keys.now bytes.now l) from (length index.old) }
-{
-    let m = index.len();
-    if m <= 1 {
-        if m == 1 {
-            index[0] = from as u16;
+    // Whether the record at position p, by key and name, comes before a key and a name.
+    fn comes_before(&self, p: usize, key: u32, name: &[u8]) -> bool
+        ensures { result ≡ before (total_entry self.now p) (key ∷ name.now) }
+    {
+        let k = self.key(p);
+        if k != key {
+            return k < key;
         }
-        return;
+        names::comes_before(self.name(p), name)
     }
-    let h = m / 2;
-    sort(bytes, l, n, keys, from, &mut index[..h], other);
-    sort(bytes, l, n, keys, from + h, &mut index[h..], other);
-    if !runs_overlap(bytes, l, n, keys, index, h) {
-        return;
-    }
-    merge_back(bytes, l, n, keys, index, h, other);
-}
 
-// Writes the index of the first n records into the first n places.
-pub fn build(bytes: &[u8], l: Layout, n: usize, keys: &[u32], index: &mut [u16])
-    requires { Keyed keys.now bytes.now l n × ((n ≤ length index.old) × (n ≤ 1536)) }
-    ensures { index.new ≡ ordered (keyed_name keys.now bytes.now l) 0 n ++ drop n index.old }
-{
-    let mut other = [0u16; MOST_RECORDS];
-    sort(bytes, l, n, keys, 0, &mut index[..n], &mut other);
-}
-
-// The place of a key and a name in an index.
-fn place(
-    bytes: &[u8],
-    l: Layout,
-    n: usize,
-    keys: &[u32],
-    index: &[u16],
-    key: u32,
-    name: &[u8],
-) -> usize
-    requires { Indexes keys.now bytes.now l n index.now }
-    ensures { InsertionPoint (keyed_name keys.now bytes.now l) index.now n (key ∷ name.now) result }
-{
-    let mut lo = 0;
-    let mut hi = n;
-    while lo < hi {
-        let mid = lo + (hi - lo) / 2;
-        if comes_first(bytes, l, keys, index[mid] as usize, key, name) {
-            lo = mid + 1;
-        } else {
-            hi = mid;
+    // Whether the record at position p has that key and that name.
+    fn is_at(&self, p: usize, key: u32, name: &[u8]) -> bool
+        ensures { result ≡ same (total_entry self.now p) (key ∷ name.now) }
+    {
+        if self.key(p) != key {
+            return false;
         }
+        names::is_same(self.name(p), name)
     }
-    lo
-}
 
-// Whether the record at position p has that key and that name.
-fn is_at(bytes: &[u8], l: Layout, keys: &[u32], p: usize, key: u32, name: &[u8]) -> bool
-    requires { Keyed keys.now bytes.now l (p + 1) }
-    ensures { result ≡ same (keyed_name keys.now bytes.now l p) (key ∷ name.now) }
-{
-    if keys[p] != key {
-        return false;
-    }
-    names::is_same(name_at(bytes, l, p), name)
-}
-
-// The position that a scan of the records gives for a key and a name.
-pub fn find(
-    bytes: &[u8],
-    l: Layout,
-    n: usize,
-    keys: &[u32],
-    index: &[u16],
-    key: u32,
-    name: &[u8],
-) -> Option<usize>
-    requires { Indexes keys.now bytes.now l n index.now }
-    ensures { result ≡ scan (λ p. same (keyed_name keys.now bytes.now l p) (key ∷ name.now)) n }
-{
-    let at = place(bytes, l, n, keys, index, key, name);
-    if at < n {
-        let p = index[at] as usize;
-        if is_at(bytes, l, keys, p, key, name) {
-            return Some(p);
+    // Whether the records at positions q and p have one key and one name.
+    fn is_twin(&self, q: usize, p: usize) -> bool
+        ensures { result ≡ same (total_entry self.now q) (total_entry self.now p) }
+    {
+        if self.key(q) != self.key(p) {
+            return false;
         }
+        names::is_same(self.name(q), self.name(p))
     }
-    None
+
+    // The order of two positions: by key, then by name, then by position.
+    fn compare(&self, p: usize, q: usize) -> Ordering
+        ensures { is_lt result ≡ stands (total_entry self.now) p q }
+    {
+        let k = self.key(p);
+        let m = self.key(q);
+        if k != m {
+            return k.cmp(&m);
+        }
+        self.compare_names(p, q)
+    }
+
+    // The order of two positions of one key.
+    fn compare_names(&self, p: usize, q: usize) -> Ordering
+        requires { get_or self.now.keys.now p 0 ≡ get_or self.now.keys.now q 0 }
+        ensures { is_lt result ≡ stands (total_entry self.now) p q }
+    {
+        let a = self.name(p);
+        let b = self.name(q);
+        if names::comes_before(a, b) {
+            return Ordering::Less;
+        }
+        if names::comes_before(b, a) {
+            return Ordering::Greater;
+        }
+        p.cmp(&q)
+    }
+
+    // Writes the positions in order, a place for each.
+    fn sort(&self, order: &mut [u16])
+        requires { (length order.old ≡ count self.now) × (length order.old < 65536) }
+        ensures { order.new ≡ ordered (entry self.now) 0 (count self.now) }
+    {
+        for (p, place) in order.iter_mut().enumerate() {
+            *place = p as u16;
+        }
+        order.sort_unstable_by(|p, q| self.compare(*p as usize, *q as usize));
+    }
 }
 
-// Whether the records at positions q and p have one key and one name.
-fn is_twin(bytes: &[u8], l: Layout, n: usize, keys: &[u32], q: usize, p: usize) -> bool
-    requires { Keyed keys.now bytes.now l n × ((q < n) × (p < n)) }
-    ensures { result ≡ same (keyed_name keys.now bytes.now l q) (keyed_name keys.now bytes.now l p) }
-{
-    is_at(bytes, l, keys, q, keys[p], name_at(bytes, l, p))
-}
+impl<'a> NameIndex<'a> {
+    ghost use Rattle.name_index.specs.Positions.{count, entry};
 
-// The first position whose key and name stand at an earlier one too.
-pub fn first_repeat(bytes: &[u8], l: Layout, n: usize, keys: &[u32], index: &[u16]) -> Option<usize>
-    requires { Indexes keys.now bytes.now l n index.now }
-    ensures { result ≡ scan (is_repeat (keyed_name keys.now bytes.now l)) n }
-{
-    let mut best = n;
-    let mut k = 1;
-    while k < n {
-        let p = index[k] as usize;
-        if p < best {
-            let q = index[k - 1] as usize;
-            if is_twin(bytes, l, n, keys, q, p) {
-                best = p;
-                k += 1;
-            } else {
-                k += 1;
+    // The index of the records, by a place for each.
+    pub fn build(records: Records<'a>, order: &'a mut [u16]) -> NameIndex<'a>
+        requires { (length order.old ≡ count records) × (length order.old < 65536) }
+        ensures { result.records ≡ records.entry }
+    {
+        records.sort(order);
+        NameIndex { records, order }
+    }
+
+    // The position that a scan of the records gives for a key and a name.
+    pub fn find(&self, key: u32, name: &[u8]) -> Option<usize>
+        ensures { result ≡ scan (λ p. same (entry self.now.records p) (key ∷ name.now)) (count self.now.records) }
+    {
+        let records = self.records;
+        let at = self
+            .order
+            .partition_point(|p| records.comes_before(*p as usize, key, name));
+        if at < self.order.len() {
+            let p = self.order[at] as usize;
+            if records.is_at(p, key, name) {
+                return Some(p);
             }
-        } else {
-            k += 1;
         }
+        None
     }
-    if best < n {
-        return Some(best);
+
+    // The first position whose key and name stand at an earlier one too.
+    pub fn first_repeat(&self) -> Option<usize>
+        ensures { result ≡ scan (is_repeat (entry self.now.records)) (count self.now.records) }
+    {
+        let records = self.records;
+        let n = self.order.len();
+        let mut best = n;
+        for pair in self.order.windows(2) {
+            let q = pair[0] as usize;
+            let p = pair[1] as usize;
+            if p < best && records.is_twin(q, p) {
+                best = p;
+            }
+        }
+        (best < n).then_some(best)
     }
-    None
 }

@@ -321,9 +321,6 @@ module _ {A : Type 0} where
       (λ f. rw (e, any, f) (sym (or-true (any t xs))))
       (λ f. rw (e, any, f) (any-or t u xs)))
 
-  pub any-cons : (t : A → Bool) (x : A) (xs : List A) → any t (x ∷ xs) ≡ t x || any t xs
-  any-cons t x xs = by_cases (t x) (λ e. rw (e, any)) (λ e. rw (e, any))
-
 pub any-one : {A : Type 0} (t : A → Bool) (x : A) → any t (x ∷ []) ≡ t x
 any-one t x = by_cases (t x) (λ e. rw (e, any)) (λ e. rw (e, any))
 

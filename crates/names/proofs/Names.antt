@@ -2,22 +2,23 @@
 use mathlib.Core.Path.{◌≡◌, refl, sym, ap, ◌∙◌}
 use mathlib.Core.Bool.{Bool, true, false, not, ◌&&◌, false≢true}
 use mathlib.Core.List.{List, [], ◌∷◌, ◌++◌}
-use Prim.Native.Nat.{ℕ, zero, suc, ◌+◌, ◌-◌, ◌<◌, ◌≤◌}
+use Prim.Native.Nat.{ℕ, zero, suc, ◌+◌, ◌-◌, ◌≤◌}
 use native.Mathlib.Omega.{arith}
 use native.Mathlib.Nat.{add-sub_cancel_left}
-use lib.ListN.{length, get_or, take, drop, replicate, drop_of_length-le, length-drop, take-append-drop}
+use lib.ListN.{length, get_or, take, drop, replicate, length-drop, take-append-drop}
 use lib.Seq.{take_all, drop-append_seam}
 use lib.Dec.{eqb}
 use borrow.Author.Tests.{eq-eqb, ne_eqb, eqb-true, eqb-false}
+use Rattle.std.specs.List.{prefix_len}
+use Rattle.std.proofs.lemmas.List.Folds.{length-prefix_len}
 use Rattle.names.specs.Lists.{every, keep_while, same, padded}
 use Rattle.names.specs.Names.{is_letter, is_digit, underscore, is_first, is_other, non_zero, are_name_characters, text, is_blank, is_name, is_name_or_blank, field_of, field_at}
 use Rattle.names.specs.declared.Field.{Field}
 use Rattle.names.specs.declared.Field.TheVariants.{Name, Blank, Neither}
 use mathlib.Core.Logic.{◌⊎◌, inl, inr}
-use Rattle.names.specs.Runs.{Run}
+use Rattle.names.proofs.Runs.{kept-prefix}
 use Rattle.names.proofs.Tests.{by_cases, not-both, and_left, and_right, both}
-use Rattle.names.proofs.Lists.{at-cons, every-on, every-off, while-on, while-off, take_while, every_append, every-replicate}
-use Rattle.names.proofs.Runs.{run_is}
+use Rattle.names.proofs.Lists.{every-on, every-off, while-on, while-off, take_while, every_append, every-replicate}
 
 -- ---- zeros
 -- each byte is x where each is the same as the one before it
@@ -28,22 +29,19 @@ same-shifted x (y ∷ ys) =
     (λ e. rw (e, every) (same-shifted y ys ∙ ap (λ (z : ℕ). every (eqb z) ys) (sym (eqb-true x y e))))
     (λ e. rw (e, every))
 
-pub blank-shifted : (f : List ℕ) (i : ℕ) → i < length f → get_or f i 0 ≡ 0
-    → same (take (length f - 1 - i) (drop i f)) (take (length f - (i + 1)) (drop (i + 1) f)) ≡ is_blank (drop i f)
+pub blank-empty : (f : List ℕ) → length f ≡ 0 → true ≡ is_blank f
 unfolding is_blank
-blank-shifted f i h e =
-    let xs = drop (i + 1) f in
-    let n : length xs ≡ length f - (i + 1) = length-drop (i + 1) f in
-    let m : length f - 1 - i ≡ length xs = omega arith in
-    rw (m, take_all (length f - (i + 1)) xs (omega arith), at-cons f i h, e) (same-shifted 0 xs)
+blank-empty [] e = refl
+blank-empty (x ∷ f) e = absurd (omega arith)
 
-pub blank-stop : (f : List ℕ) (i : ℕ) → i < length f → (get_or f i 0 ≡ 0 → ⊥) → is_blank (drop i f) ≡ false
-unfolding is_blank
-blank-stop f i h n = ap (every (eqb 0)) (at-cons f i h) ∙ every-off (eqb 0) (get_or f i 0) (drop (i + 1) f) (ne_eqb 0 (get_or f i 0) (λ q. n (sym q)))
+module _ {f : List ℕ} {x : ℕ} {xs : List ℕ} (e : f ≡ x ∷ xs) where
+  pub blank-shifted : x ≡ 0 → same (take (length xs) f) xs ≡ is_blank f
+  unfolding is_blank
+  blank-shifted z = rw (e, z) (same-shifted 0 xs)
 
-pub blank-end : (f : List ℕ) (i : ℕ) → length f ≤ i → is_blank (drop i f) ≡ true
-unfolding is_blank
-blank-end f i h = rw (drop_of_length-le f h)
+  pub blank-stop : (x ≡ 0 → ⊥) → eqb x 0 ≡ is_blank f
+  unfolding is_blank
+  blank-stop n = rw (e, ne_eqb x 0 n) (sym (every-off (eqb 0) x xs (ne_eqb 0 x (λ q. n (sym q)))))
 
 -- ---- the part before the padding
 text-zero : (x : ℕ) (xs : List ℕ) → x ≡ 0 → text (x ∷ xs) ≡ []
@@ -54,17 +52,14 @@ text-on : (x : ℕ) (xs : List ℕ) → (x ≡ 0 → ⊥) → text (x ∷ xs) �
 unfolding text non_zero
 text-on x xs n = while-on (λ b. not (eqb b 0)) x xs (rw (ne_eqb x 0 n))
 
-pub padding : {x : ℕ} → x ≡ 0 → non_zero x ≡ false
-unfolding non_zero
-padding {x} e = rw (eq-eqb x 0 e)
-
 pub no-pad : {x : ℕ} → (x ≡ 0 → ⊥) → non_zero x ≡ true
 unfolding non_zero
 no-pad {x} n = rw (ne_eqb x 0 n)
 
-pub text-part : (f : List ℕ) {i : ℕ} → Run (λ k. non_zero (get_or f k 0)) (length f) i → take i f ≡ text f
-unfolding text
-text-part f r = ap (λ (n : ℕ). take n f) (run_is non_zero f r) ∙ take_while non_zero f
+-- the bytes before the first zero, as `take_while` and `count` give their number
+pub text-part : (f : List ℕ) {n : ℕ} → n ≡ length (take (prefix_len (λ b. not (eqb b 0)) f) f) → take n f ≡ text f
+unfolding text non_zero
+text-part f e = ap (λ (n : ℕ). take n f) (e ∙ (length-prefix_len (λ b. not (eqb b 0)) f ∙ sym (kept-prefix (λ b. not (eqb b 0)) f))) ∙ take_while (λ b. not (eqb b 0)) f
 
 -- ---- a name: by the run of bytes that may stand in one
 first-other : (x : ℕ) → is_first x ≡ true → is_other x ≡ true
@@ -154,13 +149,16 @@ no-padding : (f : List ℕ) → is_blank (drop (run f) f) ≡ false → is_name 
 no-padding f e = name-run f ∙ by_cases (is_first (get_or f 0 0)) (λ h. rw (h, e)) (λ h. rw h)
 
 -- ---- what a field reads as, n being the length of that run
-module _ (f : List ℕ) {n : ℕ} (e : n ≡ length (keep_while is_other f)) {z : Bool} (k : z ≡ is_blank (drop n f)) where
+module _ (f : List ℕ) {n : ℕ} (e : n ≡ length (keep_while is_other f)) {z : Bool} (k : z ≡ is_blank (take (length f - n) (drop n f))) where
   long : n ≡ run f
   unfolding run
   long = e
 
+  here : z ≡ is_blank (drop n f)
+  here = k ∙ ap is_blank (take_all (length f - n) (drop n f) (omega (arith, length-drop n f)))
+
   behind : is_blank (drop (run f) f) ≡ z
-  behind = sym (k ∙ ap (λ (m : ℕ). is_blank (drop m f)) long)
+  behind = sym (here ∙ ap (λ (m : ℕ). is_blank (drop m f)) long)
 
   pub field-unpadded : z ≡ false → Neither ≡ field_of f
   unfolding field_of
@@ -173,7 +171,7 @@ module _ (f : List ℕ) {n : ℕ} (e : n ≡ length (keep_while is_other f)) {z 
 
   pub field-blank : z ≡ true → n ≡ 0 → Blank ≡ field_of f
   unfolding field_of
-  field-blank h q = rw (no_name f (no-first f (sym long ∙ q)), sym (ap (λ (m : ℕ). is_blank (drop m f)) q) ∙ (sym k ∙ h))
+  field-blank h q = rw (no_name f (no-first f (sym long ∙ q)), sym (ap (λ (m : ℕ). is_blank (drop m f)) q) ∙ (sym here ∙ h))
 
   pub field-named : {b : Bool} → z ≡ true → b ≡ is_first (get_or f 0 0) → b ≡ true → Name n ≡ field_of f
   unfolding field_of

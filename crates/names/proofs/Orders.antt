@@ -1,44 +1,14 @@
 -- The order of names is total, and how two names compare from an offset on. Assumes nothing.
 use mathlib.Core.Path.{◌≡◌, refl, sym, ◌∙◌}
 use mathlib.Core.Logic.{◌⊎◌, inl, inr, ⊎_elim}
-use mathlib.Core.Bool.{true, false, cond, false≢true, true≢false}
+use mathlib.Core.Bool.{true, false, false≢true, true≢false}
 use mathlib.Core.List.{List, [], ◌∷◌}
-use Prim.Native.Nat.{ℕ, ◌+◌, ◌<◌, ◌≤◌}
+use Prim.Native.Nat.{ℕ, ◌<◌}
 use native.Mathlib.Omega.{arith}
-use lib.ListN.{length, get_or, drop, drop_of_length-le}
-use lib.Dec.{ltb, eqb}
+use lib.Dec.{eqb}
 use borrow.Author.Tests.{eq-eqb, ne_eqb, le-ltb, eqb-true, eqb-false, ltb-true, ltb-false}
 use Rattle.names.specs.Order.{before}
 use Rattle.names.proofs.Tests.{by_cases, not-both, apart}
-use Rattle.names.proofs.Lists.{at-cons}
-
--- ---- from an offset: one byte, or the end
-before_at : (a b : List ℕ) (i : ℕ) → i < length a → i < length b → before (drop i a) (drop i b)
-    ≡ cond (eqb (get_or a i 0) (get_or b i 0)) (before (drop (i + 1) a) (drop (i + 1) b)) (ltb (get_or a i 0) (get_or b i 0))
-unfolding before
-before_at a b i ha hb = rw (at-cons a i ha, at-cons b i hb)
-
-pub before-differ : (a b : List ℕ) (i : ℕ) → i < length a → i < length b → (get_or a i 0 ≡ get_or b i 0 → ⊥)
-    → before (drop i a) (drop i b) ≡ ltb (get_or a i 0) (get_or b i 0)
-before-differ a b i ha hb n = before_at a b i ha hb ∙ rw (ne_eqb (get_or a i 0) (get_or b i 0) n)
-
-pub before_on : (a b : List ℕ) (i : ℕ) → i < length a → i < length b → get_or a i 0 ≡ get_or b i 0
-    → before (drop i a) (drop i b) ≡ before (drop (i + 1) a) (drop (i + 1) b)
-before_on a b i ha hb e = before_at a b i ha hb ∙ rw (eq-eqb (get_or a i 0) (get_or b i 0) e)
-
-pub before-none : (a b : List ℕ) (i : ℕ) → i < length a → length b ≤ i → before (drop i a) (drop i b) ≡ false
-unfolding before
-before-none a b i ha hb = rw (at-cons a i ha, drop_of_length-le b hb)
-
-pub before-end : (a b : List ℕ) (i : ℕ) → length a ≤ i → before (drop i a) (drop i b) ≡ ltb i (length b)
-unfolding before
-before-end a b i ha =
-    by_cases (ltb i (length b))
-    (λ e. rw (drop_of_length-le a ha, at-cons b i (ltb-true i (length b) e), e))
-    (λ e. rw (drop_of_length-le a ha, drop_of_length-le b (ltb-false i (length b) e), e))
-
-pub before-eq : {x y u v : List ℕ} → x ≡ u → y ≡ v → before x y ≡ before u v
-before-eq {x} {y} {u} {v} p q = rw (p, q)
 
 -- ---- the order is total: a ≤ b is `before b a ≡ false`
 -- the first bytes of two names, of which the second does not come before the first

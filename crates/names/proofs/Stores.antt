@@ -1,13 +1,15 @@
 -- Bytes stored one behind the other, what stands where afterwards, and a copy of some of them.
 -- Assumes nothing.
 use mathlib.Core.Path.{◌≡◌, refl, sym, ap, ◌∙◌}
-use Prim.Native.Nat.{ℕ, zero, suc, ◌+◌, ◌≤◌, ◌<◌}
+use Prim.Native.Nat.{ℕ, zero, suc, ◌+◌, ◌-◌, ◌≤◌, ◌<◌}
 use native.Mathlib.Omega.{arith}
-use native.Mathlib.Nat.{add-zero, suc-add, add-suc}
+use native.Mathlib.Nat.{add-zero, suc-add, add-suc, add-sub_cancel_left}
 use native.Mathlib.Numerals.{add-one}
-use mathlib.Core.List.{List, [], ◌∷◌, ◌++◌}
+use mathlib.Core.List.{List, [], ◌∷◌, ◌++◌, append_assoc}
 use lib.ListN.{length, get_or, set, take, drop, length-set, length-drop}
-use lib.Seq.{sets, take-suc, get_or-drop, get_or-set_same, get_or-set_other, length-take-le}
+use borrow.Rule.Slice.PartMut.{put_mid}
+use Rattle.std.proofs.lemmas.List.Edits.{sets-eq}
+use lib.Seq.{sets, drop-drop, take-suc, get_or-drop, get_or-set_same, get_or-set_other, length-take-le}
 
 pub sets-append : (xs l : List ℕ) (i : ℕ) (ys : List ℕ) → sets l i (xs ++ ys) ≡ sets (sets l i xs) (i + length xs) ys
 sets-append [] l i ys = rw add-zero
@@ -30,6 +32,13 @@ stored_at (x ∷ xs) out at (suc k) h l =
     ap (λ (j : ℕ). get_or (sets (set out at x) (suc at) xs) j 0) e
     ∙ stored_at xs (set out at x) (suc at) k (omega (arith, length-set out at x)) (omega arith)
 
+-- a slice of them that is copied whole
+pub put-part : (s out : List ℕ) (a n at : ℕ) {part : List ℕ} → a + n ≤ length s → at + n ≤ length out → part ≡ take (a + n - a) (drop a s)
+    → put_mid at (at + n - at) out part ≡ sets out at (take n (drop a s))
+put-part s out a n at h k e =
+    let l : length (take n (drop a s)) ≡ n = length-take-le n (drop a s) (omega (arith, length-drop a s)) in
+    rw (e, add-sub_cancel_left a n, add-sub_cancel_left at n, drop-drop) (sym (rw (l, append_assoc) at (sets-eq (take n (drop a s)) out at (omega arith))))
+
 -- ---- one more byte
 pub put_one : (out₀ out : List ℕ) (at : ℕ) (vs : List ℕ) (k x : ℕ) → length vs ≡ k → out ≡ sets out₀ at vs → set out (at + k) x ≡ sets out₀ at (vs ++ x ∷ [])
 put_one out₀ out at vs k x l e = rw (e, ← l) (sym (sets-append vs out₀ at (x ∷ [])))
@@ -38,9 +47,6 @@ put_one out₀ out at vs k x l e = rw (e, ← l) (sym (sets-append vs out₀ at 
 pub record Copied (s : List ℕ) (a : ℕ) (out₀ : List ℕ) (at : ℕ) (out : List ℕ) (k : ℕ) : Type 0 where
   pub long : length out ≡ length out₀
   pub is : out ≡ sets out₀ at (take k (drop a s))
-
-pub copied-start : (s : List ℕ) (a : ℕ) (out : List ℕ) (at : ℕ) → Copied s a out at out 0
-copied-start s a out at = record { long = refl; is = refl }
 
 pub copied-one : {s : List ℕ} {a : ℕ} {out₀ : List ℕ} {at : ℕ} {out : List ℕ} {k : ℕ} → Copied s a out₀ at out k → a + k < length s
     → Copied s a out₀ at (set out (at + k) (get_or s (a + k) 0)) (k + 1)

@@ -3,5 +3,4 @@ pub mod Lists
 pub mod Scans
 pub mod Names
 pub mod Order
-pub mod Runs
 pub mod Judging

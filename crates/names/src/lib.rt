@@ -5,11 +5,10 @@
 ghost use Rattle.std.specs.Prelude.{◌≡◌, [], ◌∷◌, ◌+◌, ◌≤◌, length, take, drop};
 ghost use Rattle.std.specs.Result.{result_err};
 ghost use Rattle.std.proofs.lemmas.List.Edits.{sets};
-ghost use Rattle.names.specs.Lists.{same, keep_while};
+ghost use Rattle.names.specs.Lists.{same, every, keep_while};
 ghost use Rattle.names.specs.Names.{is_first, is_other, is_blank, is_name, is_name_or_blank, text, field_of, field_at};
 ghost use Rattle.names.specs.Order.{before};
 ghost use Rattle.names.specs.Judging.{row_number, row, judged};
-ghost use Rattle.names.specs.Runs.{other_at, same_at, eight, Passed, Run};
 
 // Why a recipe, a table or a name is refused: the rows of 01's "Verdicts", and of 02's papers.
 #[derive(Clone, Copy)]
@@ -63,152 +62,75 @@ pub fn field_at(bytes: &[u8], at: usize, w: usize) -> &[u8]
 fn is_first(b: u8) -> bool
     ensures { result ≡ is_first b }
 {
-    (65 <= b) & (b <= 90) | (97 <= b) & (b <= 122) | (b == 95)
+    b.is_ascii_alphabetic() | (b == b'_')
 }
 
 fn is_other(b: u8) -> bool
     ensures { result ≡ is_other b }
 {
-    is_first(b) | (48 <= b) & (b <= 57)
+    is_first(b) | b.is_ascii_digit()
 }
 
-// Whether the eight bytes from i on may stand in a name. Eight tests without a branch are one comparison of a machine word.
-fn eight_others(f: &[u8], i: usize) -> bool
-    requires { i + 8 ≤ length f.now }
-    ensures { result ≡ eight (other_at f.now) i }
+// Whether eight bytes may stand in a name. Eight tests without a branch are one comparison of a machine word.
+fn are_others(eight: &[u8; 8]) -> bool
+    ensures { result ≡ every is_other eight.now }
 {
-    is_other(f[i])
-        & is_other(f[i + 1])
-        & is_other(f[i + 2])
-        & is_other(f[i + 3])
-        & is_other(f[i + 4])
-        & is_other(f[i + 5])
-        & is_other(f[i + 6])
-        & is_other(f[i + 7])
+    eight.iter().fold(true, |all, &b| all & is_other(b))
 }
 
-// Whether the eight bytes from i on are the same.
-fn eight_same(a: &[u8], b: &[u8], i: usize) -> bool
-    requires { (i + 8 ≤ length a.now) × (i + 8 ≤ length b.now) }
-    ensures { result ≡ eight (same_at a.now b.now) i }
-{
-    (a[i] == b[i])
-        & (a[i + 1] == b[i + 1])
-        & (a[i + 2] == b[i + 2])
-        & (a[i + 3] == b[i + 3])
-        & (a[i + 4] == b[i + 4])
-        & (a[i + 5] == b[i + 5])
-        & (a[i + 6] == b[i + 6])
-        & (a[i + 7] == b[i + 7])
-}
-
-// How many bytes from the start may stand in a name, in steps of eight.
-fn others_by_eight(f: &[u8]) -> usize
-    ensures { Passed (other_at f.now) (length f.now) result }
-{
-    let mut i = 0;
-    while 8 <= f.len() - i {
-        if !eight_others(f, i) {
-            return i;
-        }
-        i += 8;
-    }
-    i
-}
-
-// How many bytes from the start may stand in a name.
+// How many bytes from the start may stand in a name: in steps of eight, then one by one.
 fn others(f: &[u8]) -> usize
-    ensures { result ≡ length (keep_while is_other f.now) }
+    ensures within { result ≤ length f.now }
+    ensures run { result ≡ length (keep_while is_other f.now) }
 {
-    let mut i = others_by_eight(f);
-    while i < f.len() {
-        if !is_other(f[i]) {
-            return i;
-        }
-        i += 1;
-    }
-    i
+    let (eights, _) = f.as_chunks::<8>();
+    let n = 8 * eights.iter().take_while(|e| are_others(e)).count();
+    n + f[n..].iter().take_while(|&&b| is_other(b)).count()
 }
 
-// How many of the first n bytes are the same from the start, in steps of eight.
-fn same_by_eight(a: &[u8], b: &[u8], n: usize) -> usize
-    requires { (n ≤ length a.now) × (n ≤ length b.now) }
-    ensures { Passed (same_at a.now b.now) n result }
+// How many bytes two fields have in common from the start, in steps of eight. Two arrays of eight are compared as one machine word.
+#[inline]
+fn same_by_eight(a: &[u8], b: &[u8]) -> usize
+    ensures within { (result ≤ length a.now) × (result ≤ length b.now) }
+    ensures same { take result a.now ≡ take result b.now }
 {
-    let mut i = 0;
-    while 8 <= n - i {
-        if !eight_same(a, b, i) {
-            return i;
-        }
-        i += 8;
-    }
-    i
-}
-
-// How many of the first n bytes are the same from the start.
-fn common(a: &[u8], b: &[u8], n: usize) -> usize
-    requires { (n ≤ length a.now) × (n ≤ length b.now) }
-    ensures { Run (same_at a.now b.now) n result }
-{
-    let mut i = same_by_eight(a, b, n);
-    while i < n {
-        if a[i] != b[i] {
-            return i;
-        }
-        i += 1;
-    }
-    i
+    let (xs, _) = a.as_chunks::<8>();
+    let (ys, _) = b.as_chunks::<8>();
+    8 * xs.iter().zip(ys).take_while(|(x, y)| x == y).count()
 }
 
 // Whether two fields are the same.
 pub fn is_same(a: &[u8], b: &[u8]) -> bool
     ensures { result ≡ same a.now b.now }
 {
-    let n = a.len();
-    if b.len() != n {
+    if a.len() != b.len() {
         return false;
     }
-    n <= common(a, b, n)
+    let n = same_by_eight(a, b);
+    a[n..].iter().zip(&b[n..]).all(|(x, y)| x == y)
 }
 
-// Whether a comes before b.
+// Whether a comes before b: the first byte in which they differ decides, or the length.
 pub fn comes_before(a: &[u8], b: &[u8]) -> bool
     ensures { result ≡ before a.now b.now }
 {
-    if a.len() <= b.len() {
-        let i = common(a, b, a.len());
-        if a.len() <= i {
-            return i < b.len();
-        }
-        return a[i] < b[i];
-    }
-    let i = common(a, b, b.len());
-    if b.len() <= i {
-        return false;
-    }
-    a[i] < b[i]
+    let n = a.len().min(b.len());
+    let i = same_by_eight(&a[..n], &b[..n]);
+    a[i..n]
+        .iter()
+        .zip(&b[i..n])
+        .find(|(x, y)| x != y)
+        .map_or(a.len() < b.len(), |(x, y)| x < y)
 }
 
-// Whether the bytes from `from` on are zeros: the first is, and each is the same as the one before it.
-fn is_blank_from(f: &[u8], from: usize) -> bool
-    requires { from ≤ length f.now }
-    ensures { result ≡ is_blank (drop from f.now) }
-{
-    let n = f.len();
-    if n <= from {
-        return true;
-    }
-    if f[from] != 0 {
-        return false;
-    }
-    is_same(&f[from..n - 1], &f[from + 1..n])
-}
-
-// Whether a field is blank.
+// Whether a field is blank: its first byte is zero, and each is the same as the one before it.
 pub fn is_blank(f: &[u8]) -> bool
     ensures { result ≡ is_blank f.now }
 {
-    is_blank_from(f, 0)
+    let Some((first, rest)) = f.split_first() else {
+        return true;
+    };
+    *first == 0 && is_same(&f[..rest.len()], rest)
 }
 
 // What a field reads as.
@@ -216,7 +138,7 @@ pub fn read_field(f: &[u8]) -> Field
     ensures { result ≡ field_of f.now }
 {
     let n = others(f);
-    if !is_blank_from(f, n) {
+    if !is_blank(&f[n..]) {
         return Field::Neither;
     }
     if n == 0 {
@@ -232,10 +154,7 @@ pub fn read_field(f: &[u8]) -> Field
 pub fn is_name(f: &[u8]) -> bool
     ensures { result ≡ is_name f.now }
 {
-    let Field::Name(_) = read_field(f) else {
-        return false;
-    };
-    true
+    matches!(read_field(f), Field::Name(_))
 }
 
 // Whether a field is a name or blank.
@@ -252,14 +171,8 @@ pub fn is_optional(f: &[u8]) -> bool
 pub fn unpadded(f: &[u8]) -> &[u8]
     ensures { result.now ≡ text f.now }
 {
-    let mut i = 0;
-    while i < f.len() {
-        if f[i] == 0 {
-            return &f[..i];
-        }
-        i += 1;
-    }
-    f
+    let n = f.iter().take_while(|&&b| b != 0).count();
+    &f[..n]
 }
 
 impl Reason {
@@ -307,9 +220,5 @@ pub fn put_bytes(from: &[u8], a: usize, n: usize, out: &mut [u8], at: usize)
     requires { (a + n ≤ length from.now) × (at + n ≤ length out.old) }
     ensures { out.new ≡ sets out.old at (take n (drop a from.now)) }
 {
-    let mut k = 0;
-    while k < n {
-        out[at + k] = from[a + k];
-        k += 1;
-    }
+    out[at..at + n].copy_from_slice(&from[a..a + n]);
 }

@@ -1,16 +1,18 @@
 -- The search among the elements: a flat name's field is the prefixes of the instance, then the element's name with zeros behind it; the first survivor that has it.
 -- Assumes nothing.
-use Rattle.std.specs.Prelude.{None, Some, option_map}
-use mathlib.Core.Path.{◌≡◌, refl, sym, ap, ◌∙◌}
-use Prim.Native.Nat.{ℕ, ◌+◌, ◌*◌, ◌-◌, ◌≤◌, ◌<◌}
+use Rattle.std.specs.Prelude.{None, Option, Some, option_map, MatchOption}
+use mathlib.Core.Path.{◌≡◌, sym, ap, ◌∙◌}
+use Prim.Native.Nat.{ℕ, zero, suc, ◌+◌, ◌*◌, ◌-◌, ◌≤◌, ◌<◌}
 use native.Mathlib.Omega.{arith}
-use native.Mathlib.Numerals.{add-one}
 use mathlib.Core.Bool.{Bool, true, false, not, ◌&&◌}
 use mathlib.Core.List.{List, [], ◌∷◌, ◌++◌, append_assoc}
+use lib.Dec.{eqb}
 use lib.ListN.{length, get_or, take, drop, drop_of_length-le, replicate, length-append, length-drop, replicate-append-replicate}
 use lib.Seq.{drop-cons, drop-drop, take_all}
 use Rattle.names.specs.Lists.{In, begins, first, padded, same}
 use Rattle.names.specs.Names.{field_at, is_blank}
+use borrow.Author.Tests.{eqb-true, eqb-false}
+use Rattle.names.proofs.Tests.{by_cases}
 use Rattle.names.proofs.Lists.{begins-same, first-keep, padded-length, same-split, same-zeros}
 use Rattle.flat_table.specs.Table.{flat_width}
 use Rattle.recipe.specs.Records.{Recipe, name}
@@ -20,16 +22,18 @@ use Rattle.tree.specs.Numbers.{number}
 use Rattle.tree.specs.Tree.{Node, definition_at, instances, node, tree_elements}
 use Rattle.tree.proofs.Nodes.{in_tree}
 use Rattle.marks.specs.Marks.{is_gone, survivors}
+use Rattle.compose.specs.Composed.{Composed}
 use Rattle.flat_names.specs.Prefixes.{flat_name}
 use Rattle.flat_names.specs.Rows.{prefixes_of}
+use Rattle.flat_names.proofs.Filling.{naming}
 use Rattle.flat_names.proofs.Puts.{element-field, element-low, prefixes-short}
 use Rattle.composer.specs.Flat.{flat_field}
-use Rattle.composer.specs.Writing.{FatesRequires, element_at}
+use Rattle.composer.specs.Writing.{element_at}
 use Rattle.composer.proofs.ByNumber.{element-in, element-number, instance-low, path-is, record_is}
-use Rattle.composer.proofs.Writing.{gone_at, survives-at}
+use Rattle.composer.proofs.Surviving.{gone_at, survives-at}
 use Rattle.origins.specs.Origins.{is_named, origin_of}
-use Rattle.origins.specs.Search.{NameRequires, SearchRequires, ends_with, fit_of, is_origin}
-use Rattle.origins.proofs.Fits.{fit_none, fit-some}
+use Rattle.origins.specs.Search.{NameRequires, SearchRequires, ends_with, fit_cell, fit_of, is_origin}
+use Rattle.origins.proofs.Fits.{fit_none, fit-same, fit-some}
 
 -- ---- the zeros behind a name
 -- behind what is before it
@@ -82,33 +86,44 @@ module _ {s : Recipe} {q : ℕ} {f : List ℕ} {l : ℕ} (R : NameRequires s q f
         ∙ sym (split ∙ rw e)
 
 -- ---- the element of number e
-module _ {s : Recipe} {el f fits : List ℕ} (R : SearchRequires s el f fits) {e : ℕ} (low : e < length (tree_elements s)) where
+module _ {s : Recipe} {t inst el : List ℕ} {insts elems : ℕ} (C : Composed s t inst el insts elems) {f fits : List ℕ} (R : SearchRequires s f fits) {e : ℕ} (low : e < length (tree_elements s)) where
+  h₇ : fault₇ s ≡ None
+  h₇ = C.targeted.planted.row₇
+
   abbrev x : Node
   x = element_at s e
 
   x-tree : In x (tree_elements s)
-  x-tree = element-in s R.naming.small e low
+  x-tree = element-in s h₇ e low
 
-  pub fates : FatesRequires s el (length (tree_elements s))
-  fates = record { row₇ = R.naming.small; count = refl; room = R.rows.room; gones = R.gones }
+  numbered : e < elems
+  numbered = omega (arith, low, C.count)
 
-  pub gone-origin : {r : ℕ} → r ≡ get_or el (5 * e + 2) 0 → (r ≡ 0 → ⊥) → false ≡ is_origin s f x
-  unfolding is_origin
-  gone-origin h z = rw (gone_at fates low h z)
+  gone-is : not (eqb (get_or el (5 * e + 2) 0) 0) ≡ is_gone s x
+  gone-is =
+      by_cases (eqb (get_or el (5 * e + 2) 0) 0)
+      (λ b. rw (b, survives-at C numbered (eqb-true (get_or el (5 * e + 2) 0) 0 b)))
+      (λ b. rw (b, gone_at C numbered (eqb-false (get_or el (5 * e + 2) 0) 0 b)))
 
-  module _ {i z : ℕ} (i-is : i ≡ get_or el (5 * e + 1) 0) (z-is : z ≡ get_or fits i 0) where
-    pub fit-inside : i < length fits
-    fit-inside = omega (arith, instance-low R.naming.small R.rows e low i-is, R.fits.counted)
+  module _ {g : Bool} (g-is : g ≡ not (eqb (get_or el (5 * e + 2) 0) 0)) where
+    pub gone-origin : g ≡ true → false ≡ is_origin s f x
+    unfolding is_origin
+    gone-origin h = rw (sym gone-is ∙ sym g-is ∙ h)
 
+    alive : g ≡ false → is_origin s f x ≡ is_named s f x
+    unfolding is_origin
+    alive h = rw (sym gone-is ∙ sym g-is ∙ h)
+
+  module _ {i : ℕ} (i-is : i ≡ get_or el (5 * e + 1) 0) where
     inst-low : i < length (instances s)
-    inst-low = instance-low R.naming.small R.rows e low i-is
+    inst-low = instance-low h₇ C.elements e low i-is
 
-    fit_is : z ≡ fit_of s f i
-    fit_is = z-is ∙ R.fits.fits i inst-low
+    pub fit-inside : i < length fits
+    fit-inside = omega (arith, inst-low, R.fits.counted)
 
     flat-name : flat_name s x ≡ prefixes_of s i ++ name s x.place
     unfolding flat_name prefixes_of
-    flat-name = rw (path-is R.naming.small R.rows e low i-is)
+    flat-name = rw (path-is h₇ C.elements e low i-is)
 
     named : is_named s f x ≡ begins (prefixes_of s i) f && ends_with s f x.place (length (prefixes_of s i))
     unfolding is_named flat_field ends_with
@@ -116,60 +131,58 @@ module _ {s : Recipe} {el f fits : List ℕ} (R : SearchRequires s el f fits) {e
         ap (λ (n : List ℕ). same n f) (ap (padded (flat_width s.width)) flat-name ∙ padded-behind (flat_width s.width) (prefixes_of s i) (name s x.place))
         ∙ same-split (prefixes_of s i) (padded (flat_width s.width - length (prefixes_of s i)) (name s x.place)) f
 
-    module _ {g : ℕ} (g-is : g ≡ get_or el (5 * e + 2) 0) (present : g ≡ 0) where
-      alive : is_origin s f x ≡ is_named s f x
-      unfolding is_origin
-      alive = rw (survives-at fates low g-is present)
+    module _ (o : Option ℕ) (o-is : fit_cell o ≡ get_or fits i 0) where
+      fit_is : o ≡ fit_of s f i
+      fit_is = fit-same o (fit_of s f i) (o-is ∙ R.fits.fits i inst-low)
 
-      pub unfit-origin : z ≡ 0 → false ≡ is_origin s f x
-      unfit-origin h = sym (alive ∙ named ∙ rw (fit_none s f i fit_is h))
+      pub unfit-origin : {g : Bool} → g ≡ not (eqb (get_or el (5 * e + 2) 0) 0) → g ≡ false → o ≡ None → false ≡ is_origin s f x
+      unfit-origin g-is present h = sym (alive g-is present ∙ named ∙ rw (fit_none s f i (sym h ∙ fit_is)))
 
-      module _ (Some : z ≡ 0 → ⊥) {q : ℕ} (q-is : q ≡ get_or el (5 * e + 0) 0) where
+      module _ {l : ℕ} (there : o ≡ Some l) {q : ℕ} (q-is : q ≡ get_or el (5 * e + 0) 0) where
+        fit-there : (begins (prefixes_of s i) f ≡ true) × (l ≡ length (prefixes_of s i))
+        fit-there = fit-some s f i (sym there ∙ fit_is)
+
         place_is : q ≡ x.place
-        place_is = record_is R.naming.small R.rows e low q-is
+        place_is = record_is h₇ C.elements e low q-is
 
-        pub name-requires : NameRequires s q f (z - 1)
+        pub name-requires : NameRequires s q f l
         name-requires = record {
-          naming = R.naming;
+          naming = naming C.targeted.planted;
           long = R.long;
           definition = definition_at s x.path;
           element = rw place_is (in_tree s x x-tree).1;
-          short = rw (fit-some s f i fit_is Some).1 (prefixes-short s R.naming i inst-low);
+          short = rw fit-there.1 (prefixes-short s (naming C.targeted.planted) i inst-low);
         }
 
-        pub fit-origin : {r : Bool} → r ≡ ends_with s f q (z - 1) → r ≡ is_origin s f x
-        fit-origin h = let a = fit-some s f i fit_is Some in h ∙ sym (alive ∙ named ∙ rw (a.0, ← a.1, ← place_is))
+        pub fit-origin : {g : Bool} → g ≡ not (eqb (get_or el (5 * e + 2) 0) 0) → g ≡ false → {r : Bool} → r ≡ ends_with s f q l → r ≡ is_origin s f x
+        fit-origin g-is present h = h ∙ sym (alive g-is present ∙ named ∙ rw (fit-there.0, ← fit-there.1, ← place_is))
 
 -- ---- the first
 module _ (s : Recipe) (f : List ℕ) where
-  -- what the loop keeps: it is among the elements from e on
-  pub record FindLoop (elems e : ℕ) : Type 0 where
-    pub within : e ≤ elems
-    pub rest : origin_of s f ≡ first (is_origin s f) (drop e (tree_elements s))
+  -- it is among the elements from e on
+  abbrev From : ℕ → Type 0
+  From e = origin_of s f ≡ first (is_origin s f) (drop e (tree_elements s))
 
-  pub find-start : (elems : ℕ) → FindLoop elems 0
+  module _ {e : ℕ} (low : e < length (tree_elements s)) where
+    from-here : From e → origin_of s f ≡ first (is_origin s f) (element_at s e ∷ drop (suc e) (tree_elements s))
+    unfolding element_at
+    from-here g = g ∙ ap (first (is_origin s f)) (let d : drop e (tree_elements s) ≡ element_at s e ∷ drop (suc e) (tree_elements s) = drop-cons (tree_elements s) e (node [] 0) low in d)
+
+  -- none before e has the name
+  abbrev Before : ℕ → Type 0
+  Before e = (k : ℕ) → 0 ≤ k → k < e → is_origin s f (element_at s k) ≡ false
+
+  from : (e : ℕ) → e ≤ length (tree_elements s) → Before e → From e
   unfolding origin_of survivors is_origin
-  find-start elems = record { within = omega arith; rest = first-keep (is_named s f) (λ x. not (is_gone s x)) (tree_elements s) }
+  from zero h b = first-keep (is_named s f) (λ x. not (is_gone s x)) (tree_elements s)
+  from (suc e) h b = from-here (omega arith) (from e (omega arith) (λ k l m. b k l (omega arith))) ∙ rw (b e (omega arith) (omega arith), first)
 
-  module _ {elems e : ℕ} (g : FindLoop elems e) (count : elems ≡ length (tree_elements s)) where
-    pub find-end : elems ≤ e → None ≡ option_map (number s) (origin_of s f)
-    find-end h =
-        let over : length (tree_elements s) ≤ e = omega (arith, count) in
-        let o : origin_of s f ≡ None = g.rest ∙ rw (drop_of_length-le (tree_elements s) over) in
-        sym (ap (option_map (number s)) o)
-
-    module _ (low : e < elems) where
-      inside : e < length (tree_elements s)
-      inside = omega (arith, count)
-
-      here : drop e (tree_elements s) ≡ element_at s e ∷ drop (e + 1) (tree_elements s)
-      unfolding element_at
-      here = rw (add-one, drop-cons (tree_elements s) e (node [] 0) inside)
-
-      pub find-more : is_origin s f (element_at s e) ≡ false → FindLoop elems (e + 1)
-      find-more t = record { within = omega arith; rest = g.rest ∙ ap (first (is_origin s f)) here ∙ rw (t, first) }
-
-      pub find-hit : fault₇ s ≡ None → is_origin s f (element_at s e) ≡ true → Some e ≡ option_map (number s) (origin_of s f)
-      find-hit h₇ t =
-          let o : origin_of s f ≡ Some (element_at s e) = g.rest ∙ ap (first (is_origin s f)) here ∙ rw (t, first) in
-          sym (ap (option_map (number s)) o ∙ ap Some (element-number s h₇ e inside))
+  pub found : fault₇ s ≡ None → {n : ℕ} → n ≡ length (tree_elements s) → (r : Option ℕ)
+      → MatchOption r (Before n) (λ e. (0 ≤ e) × (e < n) × (is_origin s f (element_at s e) ≡ true) × Before e) → r ≡ option_map (number s) (origin_of s f)
+  found h₇ {n} count None b =
+      let o : origin_of s f ≡ None = from n (omega (arith, count)) b ∙ rw (drop_of_length-le (tree_elements s) (let l : length (tree_elements s) ≤ n = omega (arith, count) in l)) in
+      sym (ap (option_map (number s)) o)
+  found h₇ count (Some e) h =
+      let low : e < length (tree_elements s) = omega (arith, h.1, count) in
+      let o : origin_of s f ≡ Some (element_at s e) = from-here low (from e (omega (arith, low)) h.3) ∙ rw (h.2, first) in
+      sym (ap (option_map (number s)) o ∙ ap Some (element-number s h₇ e low))

@@ -1,32 +1,36 @@
 -- Which instances' prefixes a name begins with: a submodel's prefix in the name, and the instances one after the other.
 -- Assumes nothing.
+use Rattle.std.specs.Prelude.{None, Option, Some}
 use mathlib.Core.Path.{◌≡◌, refl, sym, ap, ◌∙◌}
-use Prim.Native.Nat.{ℕ, ◌+◌, ◌*◌, ◌-◌, ◌≤◌, ◌<◌, min}
+use Prim.Native.Nat.{ℕ, ◌+◌, ◌*◌, ◌≤◌, ◌<◌, min}
 use native.Mathlib.Omega.{arith}
 use mathlib.Core.Bool.{Bool, true, false}
 use mathlib.Core.List.{List, ◌++◌}
 use lib.ListN.{length, get_or, set, take, drop, replicate, length-append, length-drop, length-set}
-use lib.Seq.{drop-drop, get_or-set_other, get_or-set_same}
+use lib.Seq.{drop-drop, get_or-set_same}
 use Rattle.names.specs.Lists.{begins, same}
 use Rattle.names.specs.Names.{field_at, underscore}
 use Rattle.names.proofs.Lists.{begins-same, begins-split}
-use Rattle.names.proofs.Tests.{by_cases, three}
+use Rattle.names.proofs.Tests.{by_cases, not_none, some-none, the-some}
 use Rattle.flat_table.specs.Table.{flat_width}
 use Rattle.recipe.specs.Records.{Recipe, name}
 use Rattle.recipe.specs.Definitions.{holder}
 use Rattle.recipe.proofs.Definitions.{name-short}
+use Rattle.shadow.specs.Columns.{Linked}
+use Rattle.tree.specs.Planted.{Planted}
 use Rattle.tree.specs.Tree.{instances}
 use Rattle.flat_names.specs.Prefixes.{fewest, names_around, prefix, with_underscores}
-use Rattle.flat_names.specs.Rows.{prefixes_of, row_width}
+use Rattle.flat_names.specs.Rows.{Naming, prefixes_of, row_width}
 use Rattle.flat_names.specs.Underscores.{run_behind, run_first}
-use Rattle.flat_names.proofs.Filling.{Behind, around-low, behind, main-prefixes, row-length, some-instance}
+use Rattle.flat_names.proofs.Filling.{Behind, around-low, behind, main-prefixes, naming, row-length, some-instance}
 use Rattle.flat_names.proofs.Looking.{name-bytes, own_room}
+use Rattle.flat_names.proofs.Puts.{prefixes-short}
 use Rattle.flat_names.proofs.OneName.{prefix-count}
 use Rattle.flat_names.proofs.Underscores.{behind-most, first-take, most-behind}
-use Rattle.origins.specs.Search.{FitRequires, FitsTo, PrefixFits, PrefixRequires, fit_of, prefix_end}
+use Rattle.origins.specs.Search.{BehindRequires, FitRequires, FitsTo, PrefixRequires, fit_cell, fit_of, prefix_end}
 
 -- ---- the prefix of the submodel m in f, from l on
-module _ {s : Recipe} {t : List ℕ} {m : ℕ} {f : List ℕ} {l : ℕ} (R : PrefixRequires s t m f l) where
+module _ {s : Recipe} {t : List ℕ} (L : Linked s t) {m : ℕ} {f : List ℕ} {l : ℕ} (R : PrefixRequires s m f l) where
   abbrev rest : List ℕ
   rest = drop l f
 
@@ -34,22 +38,22 @@ module _ {s : Recipe} {t : List ℕ} {m : ℕ} {f : List ℕ} {l : ℕ} (R : Pre
   count = fewest s.width (names_around s m) (name s m)
 
   two : 2 ≤ s.width
-  two = omega (arith, R.linked.numbered.shadowed.wide)
+  two = omega (arith, L.numbered.shadowed.wide)
 
   pub narrow : s.width ≤ 64
-  narrow = R.linked.numbered.shadowed.narrow
+  narrow = L.numbered.shadowed.narrow
 
   count-two : 2 ≤ count
-  count-two = (prefix-count s two R.linked.row₃ (holder s m) m R.submodel).two
+  count-two = (prefix-count s two L.row₃ (holder s m) m R.submodel).two
 
   count_most : count ≤ s.width
-  count_most = (prefix-count s two R.linked.row₃ (holder s m) m R.submodel).most
+  count_most = (prefix-count s two L.row₃ (holder s m) m R.submodel).most
 
   pub two-at-least : {u : ℕ} → u ≡ count → 2 ≤ u
   two-at-least e = omega (arith, e, count-two)
 
   pub submodel-room : m + 1 + s.width ≤ length s.bytes
-  submodel-room = own_room R.linked m R.submodel
+  submodel-room = own_room L m R.submodel
 
   module _ {n : ℕ} (n-is : n ≡ length (name s m)) where
     -- its length
@@ -79,7 +83,7 @@ module _ {s : Recipe} {t : List ℕ} {m : ℕ} {f : List ℕ} {l : ℕ} (R : Pre
           ∙ rw (name-bytes s m n n-is, n-is)
           (sym (begins-same (name s m) rest (omega (arith, in_field, n-is, length-drop l f))))
 
-      pub no_name : b ≡ false → 0 ≡ prefix_end s f m l
+      pub no_name : b ≡ false → None ≡ prefix_end s f m l
       unfolding prefix_end prefix with_underscores
       no_name e = rw (begins-split (name s m) (replicate count underscore) rest, sym name-test ∙ e)
 
@@ -93,7 +97,7 @@ module _ {s : Recipe} {t : List ℕ} {m : ℕ} {f : List ℕ} {l : ℕ} (R : Pre
             ∙ rw (sym name-test ∙ there)
             (ap (λ (j : ℕ). min s.width (run_first (drop (l + j) f))) n-is ∙ ap (λ (x : List ℕ). min s.width (run_first x)) (sym (drop-drop (length (name s m)) l f)))
 
-        pub few-underscores : k < u → 0 ≡ prefix_end s f m l
+        pub few-underscores : k < u → None ≡ prefix_end s f m l
         unfolding prefix_end prefix with_underscores
         few-underscores h =
             by_cases (begins (name s m ++ replicate count underscore) rest)
@@ -104,110 +108,108 @@ module _ {s : Recipe} {t : List ℕ} {m : ℕ} {f : List ℕ} {l : ℕ} (R : Pre
         unfolding prefix with_underscores
         begins-there h = most-behind (name s m) count rest (omega (arith, count-two)) (omega (arith, run_is, u-is))
 
-        pub prefix-there : u ≤ k → l + (n + u) + 1 ≡ prefix_end s f m l
+        pub prefix-there : u ≤ k → Some (l + (n + u)) ≡ prefix_end s f m l
         unfolding prefix_end
         prefix-there h = rw (begins-there h, sym (whole_length u-is))
 
-  -- it is no further than the prefixes of an instance can be
-  pub end_low : prefix_end s f m l ≤ row_width s.width + 1
-  unfolding prefix_end
-  end_low = by_cases (begins (prefix s m) rest) (λ e. rw e (omega (arith, R.room))) (λ e. rw e (omega arith))
+-- ---- a cell has one fit
+pub fit-same : (a b : Option ℕ) → fit_cell a ≡ fit_cell b → a ≡ b
+fit-same None None e = refl
+fit-same None (Some l) e = absurd (omega (arith, e))
+fit-same (Some k) None e = absurd (omega (arith, e))
+fit-same (Some k) (Some l) e = ap Some (let n : k ≡ l = omega (arith, e) in n)
 
--- ---- a fit, and what it says
-module _ (s : Recipe) (f : List ℕ) (i : ℕ) {z : ℕ} (z-is : z ≡ fit_of s f i) where
-  pub fit_none : z ≡ 0 → begins (prefixes_of s i) f ≡ false
+module _ (s : Recipe) (f : List ℕ) (i : ℕ) where
+  pub fit_none : None ≡ fit_of s f i → begins (prefixes_of s i) f ≡ false
   unfolding fit_of
-  fit_none h = by_cases (begins (prefixes_of s i) f) (λ e. absurd (let k : length (prefixes_of s i) + 1 ≡ 0 = sym (rw e at z-is) ∙ h in omega arith)) (λ e. e)
+  fit_none h = by_cases (begins (prefixes_of s i) f) (λ e. not_none (rw e at h)) (λ e. e)
 
-  pub fit-some : (z ≡ 0 → ⊥) → (begins (prefixes_of s i) f ≡ true) × (z - 1 ≡ length (prefixes_of s i))
+  pub fit-some : {l : ℕ} → Some l ≡ fit_of s f i → (begins (prefixes_of s i) f ≡ true) × (l ≡ length (prefixes_of s i))
   unfolding fit_of
-  fit-some h =
-      by_cases (begins (prefixes_of s i) f)
-      (λ e. (e, (let k : z ≡ length (prefixes_of s i) + 1 = rw e at z-is in omega arith)))
-      (λ e. absurd (h (rw e at z-is)))
+  fit-some h = by_cases (begins (prefixes_of s i) f) (λ e. (e, the-some (rw e at h))) (λ e. some-none (rw e at h))
+
+  -- it is no longer than the prefixes of an instance can be
+  pub fit-few : Naming s → i < length (instances s) → fit_cell (fit_of s f i) ≤ row_width s.width + 1
+  unfolding fit_of
+  fit-few n h = by_cases (begins (prefixes_of s i) f) (λ e. rw e (omega (arith, prefixes-short s n i h))) (λ e. rw e (omega arith))
 
 -- ---- an instance behind the one around it
-module _ {s : Recipe} {i m u : ℕ} (B : Behind s i m u) (f : List ℕ) {z : ℕ} (z-is : z ≡ fit_of s f u) where
-  pub unfit-behind : z ≡ 0 → 0 ≡ fit_of s f i
+module _ {s : Recipe} {i m u : ℕ} (B : Behind s i m u) (f : List ℕ) where
+  pub unfit-behind : None ≡ fit_of s f u → None ≡ fit_of s f i
   unfolding fit_of
-  unfit-behind h = rw (B.prefixes-are, begins-split (prefixes_of s u) (prefix s m) f, fit_none s f u z-is h)
+  unfit-behind h = rw (B.prefixes-are, begins-split (prefixes_of s u) (prefix s m) f, fit_none s f u h)
 
-  pub fit-behind : (z ≡ 0 → ⊥) → prefix_end s f m (z - 1) ≡ fit_of s f i
+  pub behind-fit : {l : ℕ} → Some l ≡ fit_of s f u → prefix_end s f m l ≡ fit_of s f i
   unfolding fit_of prefix_end
-  fit-behind h =
-      let a = fit-some s f u z-is h in
+  behind-fit h =
+      let a = fit-some s f u h in
       rw (B.prefixes-are, begins-split (prefixes_of s u) (prefix s m) f, a.0, a.1, length-append (prefixes_of s u) (prefix s m))
 
+module _ {s : Recipe} {t inst : List ℕ} {n : ℕ} (P : Planted s t inst n) {i : ℕ} {f fit : List ℕ} (R : BehindRequires s i f fit) where
+  low : i < n
+  low = omega (arith, R.low, P.rows.count)
+
+  pub fit-room : i < length fit
+  fit-room = omega (arith, R.low, R.fits.counted)
+
+  module _ {m u : ℕ} (em : m ≡ get_or inst (6 * i + 3) 0) (eu : u ≡ get_or inst (6 * i + 4) 0) where
+    pub here : Behind s i m u
+    here = behind P low R.above em eu
+
+    module _ (o : Option ℕ) (o-is : fit_cell o ≡ get_or fit u 0) where
+      around-fit : o ≡ fit_of s f u
+      around-fit = fit-same o (fit_of s f u) (o-is ∙ R.fits.fits u (around-low P low R.above eu))
+
+      pub turn-unfit : o ≡ None → None ≡ fit_of s f i
+      turn-unfit e = unfit-behind here f (sym e ∙ around-fit)
+
+      module _ {l : ℕ} (e : o ≡ Some l) where
+        pub prefix-requires : PrefixRequires s m f l
+        prefix-requires = record {
+          submodel = here.submodel;
+          long = R.long;
+          room = rw (fit-some s f u (sym e ∙ around-fit)).1 here.short;
+        }
+
+        pub turn-fit : prefix_end s f m l ≡ fit_of s f i
+        turn-fit = behind-fit here f (sym e ∙ around-fit)
+
 -- ---- what the loop keeps: the fits of the first i instances
-pub record FitLoop (s : Recipe) (f fit₀ fit : List ℕ) (n i : ℕ) : Type 0 where
+pub record FitLoop (s : Recipe) (f fit : List ℕ) (n i : ℕ) : Type 0 where
   pub fits : FitsTo s f fit i
   pub below : i ≤ n
   pub above : 0 < i
-  pub long : length fit ≡ length fit₀
 
-module _ {s : Recipe} {t inst : List ℕ} {n : ℕ} {f fit₀ : List ℕ} (R : FitRequires s t inst n f fit₀) where
+module _ {s : Recipe} {t inst : List ℕ} {n : ℕ} (P : Planted s t inst n) {f fit₀ : List ℕ} (R : FitRequires s n f fit₀) where
   pub some-room : 0 < length fit₀
-  some-room = omega (arith, some-instance s, R.planted.rows.count, R.room)
+  some-room = omega (arith, some-instance s, P.rows.count, R.room)
 
-  main-fits : 1 ≡ fit_of s f 0
+  main-fits : fit_cell (Some 0) ≡ fit_cell (fit_of s f 0)
   unfolding fit_of
   main-fits = rw (main-prefixes s)
 
-  pub fit-start : FitLoop s f (set fit₀ 0 1) (set fit₀ 0 1) n 1
-  fit-start =
+  pub fit-start : {fit₁ : List ℕ} → fit₁ ≡ set fit₀ 0 1 → FitLoop s f fit₁ n 1
+  fit-start e =
       let some = some-instance s in
       record {
         fits = record {
-          counted = omega (arith, R.planted.rows.count, R.room, length-set fit₀ 0 1);
-          fits = λ i l. let e : i ≡ 0 = omega arith in rw e (get_or-set_same fit₀ 0 1 0 some-room ∙ main-fits);
+          counted = omega (arith, P.rows.count, R.room, ap length e, length-set fit₀ 0 1);
+          fits = λ i l. let z : i ≡ 0 = omega arith in rw (z, e) (get_or-set_same fit₀ 0 1 0 some-room ∙ main-fits);
         };
-        below = omega (arith, R.planted.rows.count);
+        below = omega (arith, P.rows.count);
         above = omega arith;
-        long = refl;
       }
 
-  module _ {fit₁ fit : List ℕ} {i : ℕ} (g : FitLoop s f fit₁ fit n i) where
-    pub fit-end : n ≤ i → PrefixFits s f fit
-    fit-end h = let e : i ≡ length (instances s) = omega (arith, R.planted.rows.count, g.below) in rw e at g.fits
+  module _ {fit : List ℕ} {i : ℕ} (g : FitLoop s f fit n i) where
+    module _ (before : i < n) where
+      pub behind-requires : BehindRequires s i f fit
+      behind-requires = record {
+        long = R.long;
+        fits = g.fits;
+        above = g.above;
+        low = omega (arith, P.rows.count);
+      }
 
-    module _ (low : i < n) where
-      pub fit-room : i < length fit
-      fit-room = omega (arith, R.planted.rows.count, g.fits.counted)
-
-      pub around-room : {u : ℕ} → u ≡ get_or inst (6 * i + 4) 0 → u < length fit
-      around-room e = omega (arith, around-low R.planted low g.above e, fit-room)
-
-      module _ {m u z : ℕ} (em : m ≡ get_or inst (6 * i + 3) 0) (eu : u ≡ get_or inst (6 * i + 4) 0) (ez : z ≡ get_or fit u 0) where
-        pub here : Behind s i m u
-        here = behind R.planted low g.above em eu
-
-        around-fit : z ≡ fit_of s f u
-        around-fit = ez ∙ g.fits.fits u (around-low R.planted low g.above eu)
-
-        pub prefix-requires : (z ≡ 0 → ⊥) → PrefixRequires s t m f (z - 1)
-        prefix-requires h = record {
-          linked = R.planted.measured.linked;
-          submodel = here.submodel;
-          long = R.long;
-          room = rw (fit-some s f u around-fit h).1 here.short;
-        }
-
-        fit-turn : {r : ℕ} → r ≡ fit_of s f i → FitLoop s f fit₁ (set fit i r) n (i + 1)
-        fit-turn {r} e = record {
-          fits = record {
-            counted = rw length-set g.fits.counted;
-            fits = λ k h. three k i
-                (λ v. get_or-set_other fit i k r 0 (λ q. omega arith) ∙ g.fits.fits k v)
-                (λ v. rw v (get_or-set_same fit i r 0 fit-room ∙ e))
-                (λ v. absurd (omega arith));
-          };
-          below = omega arith;
-          above = omega arith;
-          long = length-set fit i r ∙ g.long;
-        }
-
-        pub turn-unfit : z ≡ 0 → FitLoop s f fit₁ (set fit i 0) n (i + 1)
-        turn-unfit h = fit-turn (unfit-behind here f around-fit h)
-
-        pub turn-fit : (z ≡ 0 → ⊥) → {r : ℕ} → r ≡ prefix_end s f m (z - 1) → FitLoop s f fit₁ (set fit i r) n (i + 1)
-        turn-fit h e = fit-turn (e ∙ fit-behind here f around-fit h)
+      module _ {o : Option ℕ} (o-is : o ≡ fit_of s f i) where
+        pub cell-few : fit_cell o < 65536
+        cell-few = rw o-is (omega (arith, fit-few s f i (naming P) behind-requires.low, P.measured.linked.numbered.shadowed.narrow))

@@ -1,9 +1,10 @@
 -- 02's Paper 1, "From a flat name back to the recipe", at any name width.
 -- Assumes nothing.
-use Rattle.std.specs.Prelude.{ℕ, List, [], Bool, length, None, Option, Some}
+use Rattle.std.specs.Prelude.{ℕ, List, [], Bool, length, None, Option, Some, Result, Ok, Err}
 use Rattle.names.specs.Lists.{first, padded, same}
 use Rattle.recipe.specs.Records.{Recipe}
 use Rattle.names.specs.Judging.{row_number}
+use Rattle.names.specs.declared.Refusal.{Refusal}
 use Rattle.tree.specs.Tree.{Node, most_depth}
 use Rattle.marks.specs.Marks.{survivors}
 use Rattle.compose.specs.Rows.{refusal_of}
@@ -30,6 +31,11 @@ walk_refused n p = record { number = n; place = p; depth = 0; submodel = padded 
 unfoldable pub walk_answer : Option Node → Origin
 walk_answer None = walk_refused 18 0
 walk_answer (Some x) = walked_to x
+
+-- what is answered of an origin that was found or a refusal
+abbrev pub answered : Result Origin Refusal → Origin
+answered (Ok o) = o
+answered (Err r) = walk_refused (row_number r.reason) r.place
 
 -- 18 is "judged after 12 ..; 13 doesn't apply here": the recipe's refusal, or the survivor's origin, or 18
 unfoldable pub walk_back : Recipe → List ℕ → Origin

@@ -2,6 +2,7 @@
 -- Assumes nothing.
 use Rattle.std.specs.Prelude.{ℕ, zero, suc, ◌+◌, Bool, true, false, cond, ◌&&◌, ◌||◌, List, [], ◌∷◌, length, get_or, take, leb, ltb, eqb}
 use Rattle.names.specs.Names.{field_at, text}
+use Rattle.recipe.specs.declared.Source.{Source}
 
 -- "A recipe is a byte string"; "A name field is 12 bytes": the width of its name fields
 pub record Recipe : Type 0 where
@@ -11,6 +12,10 @@ pub record Recipe : Type 0 where
 -- the recipe of these bytes and this width
 abbrev pub recipe_at : ℕ → List ℕ → Recipe
 recipe_at w b = record { width = w; bytes = b }
+
+-- the recipe that is lent
+abbrev pub recipe : Source → Recipe
+recipe s = recipe_at s.width s.bytes.now
 
 -- what a part of a body is
 pub data Part : Type 0 where

@@ -1,15 +1,35 @@
 // Recipes: their records, and the refusals 1 to 3.
-// For the floors above, which name the width w of names: length_fault, first_unreadable and first_unformed (rows 1 to 3), is_readable and read_record;
+// For the floors above: Source, a recipe as it is lent; Kind; length_fault, first_unreadable and first_unformed (rows 1 to 3), is_readable and read_record;
 // Records, the places of the records one after the other; what is asked of a kind byte k: record_length, length_by_kind, is_port, is_deletion, is_replaced_by, is_owned, is_mark, is_pointer, submodel_offset; wide, of a number in a table.
 #![tactic(auto)]
 
 ghost use Rattle.std.specs.Prelude.{◌≡◌, true, ℕ, ◌+◌, ◌*◌, ◌<◌, ◌≤◌, length};
 ghost use Rattle.names.specs.Names.{field_of};
-ghost use Rattle.recipe.specs.Records.{recipe_at, body_of, names_in, singles_in, is_known, record_length, port_kind, deletion_kind, replaced_by_kind, owned_kind, mark_kind, pointer_kind, submodel_part, part_offset, is_readable, stop, field};
+ghost use Rattle.recipe.specs.Records.{recipe, body_of, names_in, singles_in, is_known, record_length, port_kind, deletion_kind, replaced_by_kind, owned_kind, mark_kind, pointer_kind, submodel_part, part_offset, is_readable, stop, field};
 ghost use Rattle.recipe.specs.Reading.{fault₁, fault₂, fault₃};
 ghost use Rattle.recipe.specs.Fields.{TargetAt, RecordAt, MarkAt, target_reading, mark_reading, reading_of};
 
 use names::Field;
+
+// A recipe as it is lent: its bytes, and the width of its name fields.
+#[derive(Clone, Copy)]
+pub struct Source<'a> {
+    pub bytes: &'a [u8],
+    pub width: usize,
+}
+
+// The kinds of records, by their kind bytes.
+#[derive(Clone, Copy)]
+pub enum Kind {
+    Model = 1,
+    Element = 2,
+    Port = 3,
+    Submodel = 4,
+    Deletion = 5,
+    Replacement = 6,
+    ReplacedBy = 7,
+    Factors = 8,
+}
 
 // How a target is named: by element name or by port name, with the offset of that name in the recipe.
 #[derive(Clone, Copy)]
@@ -81,11 +101,11 @@ pub fn wide(x: u16) -> usize
     x as usize
 }
 
-// Whether row 1 refuses the recipe, at its start: it is empty, or over 16,384 bytes. The name width does not matter.
-pub fn length_fault(s: &[u8]) -> Option<usize>
-    ensures { (w : ℕ) → result ≡ fault₁ (recipe_at w s.now) }
+// Whether row 1 refuses the recipe, at its start: it is empty, or over 16,384 bytes.
+pub fn length_fault(s: &Source) -> Option<usize>
+    ensures { result ≡ fault₁ (recipe s.now) }
 {
-    if (s.len() == 0) | (MOST_BYTES < s.len()) {
+    if (s.bytes.len() == 0) | (MOST_BYTES < s.bytes.len()) {
         return Some(0);
     }
     None
@@ -142,42 +162,42 @@ pub fn length_by_kind(k: u8, w: usize) -> usize
 fn is_known(k: u8) -> bool
     ensures { result ≡ is_known k }
 {
-    (1 <= k) & (k <= 8)
+    (Kind::Model as u8 <= k) & (k <= Kind::Factors as u8)
 }
 
 // A port.
 pub fn is_port(k: u8) -> bool
     ensures { result ≡ port_kind k }
 {
-    k == 3
+    k == Kind::Port as u8
 }
 
 // A deletion.
 pub fn is_deletion(k: u8) -> bool
     ensures { result ≡ deletion_kind k }
 {
-    k == 5
+    k == Kind::Deletion as u8
 }
 
 // A replaced-by.
 pub fn is_replaced_by(k: u8) -> bool
     ensures { result ≡ replaced_by_kind k }
 {
-    k == 7
+    k == Kind::ReplacedBy as u8
 }
 
 // A mark with an owner: a replacement or replaced-by.
 pub fn is_owned(k: u8) -> bool
     ensures { result ≡ owned_kind k }
 {
-    (k == 6) | (k == 7)
+    (k == Kind::Replacement as u8) | (k == Kind::ReplacedBy as u8)
 }
 
 // A mark.
 pub fn is_mark(k: u8) -> bool
     ensures { result ≡ mark_kind k }
 {
-    (k == 5) | (k == 6) | (k == 7)
+    (k == Kind::Deletion as u8) | (k == Kind::Replacement as u8) | (k == Kind::ReplacedBy as u8)
 }
 
 // A mark or port.
@@ -199,53 +219,31 @@ pub fn submodel_offset(k: u8, w: usize) -> usize
 }
 
 // Whether the record at p is whole, of a known kind, and of kind 1 if it is the first: row 2 does not refuse it.
-pub fn is_readable(s: &[u8], w: usize, p: usize) -> bool
-    requires { w ≤ 65536 }
-    ensures { result ≡ is_readable (recipe_at w s.now) p }
+pub fn is_readable(s: &Source, p: usize) -> bool
+    requires { s.now.width ≤ 65536 }
+    ensures { result ≡ is_readable (recipe s.now) p }
 {
-    if p >= s.len() {
+    if p >= s.bytes.len() {
         return false;
     }
-    let k = s[p];
+    let k = s.bytes[p];
     if !is_known(k) {
         return false;
     }
-    let n = record_length(k, w);
-    if n > s.len() - p {
+    let n = record_length(k, s.width);
+    if n > s.bytes.len() - p {
         return false;
     }
-    if k == 1 {
+    if k == Kind::Model as u8 {
         return true;
     }
     p > 0
 }
 
-// Where the reading of a recipe stops: at its end, or at the first record that row 2 refuses.
-fn reading_stop(s: &[u8], w: usize) -> usize
-    requires { w ≤ 65536 }
-    ensures { result ≡ stop (recipe_at w s.now) }
-{
-    let mut p = 0;
-    while is_readable(s, w, p) {
-        p += record_length(s[p], w);
-    }
-    p
-}
-
-// The first record that row 2 refuses.
-pub fn first_unreadable(s: &[u8], w: usize) -> Option<usize>
-    requires { w ≤ 65536 }
-    ensures { result ≡ fault₂ (recipe_at w s.now) }
-{
-    let stop = reading_stop(s, w);
-    (stop < s.len()).then_some(stop)
-}
-
-// The places of the records of a readable recipe, in order.
+// The places of the records of a recipe, in order, as far as it is readable.
 #[derive(Clone, Copy)]
 pub struct Records<'a> {
-    pub bytes: &'a [u8],
-    pub width: usize,
+    pub source: &'a Source<'a>,
     pub at: usize,
 }
 
@@ -262,163 +260,182 @@ impl<'a> Iterator for Records<'a> {
 
     fn next(&mut self) -> Option<usize> {
         let p = self.at;
-        if p >= self.bytes.len() {
+        let s = self.source;
+        if p >= s.bytes.len() {
             return None;
         }
-        self.at = p + record_length(self.bytes[p], self.width);
+        self.at = p + record_length(s.bytes[p], s.width);
         Some(p)
     }
 }
 
 impl<'a> Records<'a> {
-    // Those of a recipe of name width w, from the first on.
-    pub fn of(s: &'a [u8], w: usize) -> Records<'a>
-        ensures { (result.bytes.now ≡ s.now) × ((result.width ≡ w) × (result.at ≡ 0)) }
+    // Those of a recipe, from the first on.
+    pub fn of(s: &'a Source<'a>) -> Records<'a>
+        ensures { (recipe result.source.now ≡ recipe s.now) × (result.at ≡ 0) }
     {
-        Records {
-            bytes: s,
-            width: w,
-            at: 0,
+        Records { source: s, at: 0 }
+    }
+}
+
+// Where the reading of a recipe stops: at its end, or at the first record that row 2 refuses.
+fn reading_stop(s: &Source) -> usize
+    requires { s.now.width ≤ 65536 }
+    ensures { result ≡ stop (recipe s.now) }
+{
+    for p in Records::of(s) {
+        if !is_readable(s, p) {
+            return p;
         }
     }
+    s.bytes.len()
+}
+
+// The first record that row 2 refuses.
+pub fn first_unreadable(s: &Source) -> Option<usize>
+    requires { s.now.width ≤ 65536 }
+    ensures { result ≡ fault₂ (recipe s.now) }
+{
+    let stop = reading_stop(s);
+    (stop < s.bytes.len()).then_some(stop)
 }
 
 // What the name field k bytes into the body of the record at p reads as.
-fn field_at(s: &[u8], w: usize, p: usize, k: usize) -> Field
-    requires { p + 1 + k + w ≤ length s.now }
-    ensures { result ≡ field_of (field (recipe_at w s.now) p k) }
+fn field_at(s: &Source, p: usize, k: usize) -> Field
+    requires { p + 1 + k + s.now.width ≤ length s.now.bytes.now }
+    ensures { result ≡ field_of (field (recipe s.now) p k) }
 {
-    names::read_field(names::field_at(s, p + 1 + k, w))
+    names::read_field(names::field_at(s.bytes, p + 1 + k, s.width))
 }
 
 // The way and the target of the port or mark at p, whose submodel begins k bytes into its body.
-fn read_target(s: &[u8], w: usize, p: usize, k: usize) -> Option<Way>
-    requires { TargetAt (recipe_at w s.now) p k }
-    ensures { result ≡ target_reading (recipe_at w s.now) p }
+fn read_target(s: &Source, p: usize, k: usize) -> Option<Way>
+    requires { TargetAt (recipe s.now) p k }
+    ensures { result ≡ target_reading (recipe s.now) p }
 {
-    let b = s[p + 1 + (k + w)];
+    let b = s.bytes[p + 1 + (k + s.width)];
     if b > 1 {
         return None;
     }
-    let Field::Name(_) = field_at(s, w, p, k + w + 1) else {
+    let Field::Name(_) = field_at(s, p, k + s.width + 1) else {
         return None;
     };
-    let at = p + 1 + (k + w + 1);
+    let at = p + 1 + (k + s.width + 1);
     if b == 0 {
         return Some(Way::ByElement(at));
     }
     Some(Way::ByPort(at))
 }
 
-fn read_model(s: &[u8], w: usize, p: usize) -> Option<Record>
-    requires { RecordAt (recipe_at w s.now) p 1 (1 + w) }
-    ensures { result ≡ reading_of (recipe_at w s.now) p }
+fn read_model(s: &Source, p: usize) -> Option<Record>
+    requires { RecordAt (recipe s.now) p 1 (1 + s.now.width) }
+    ensures { result ≡ reading_of (recipe s.now) p }
 {
-    let Field::Name(_) = field_at(s, w, p, 0) else {
+    let Field::Name(_) = field_at(s, p, 0) else {
         return None;
     };
     Some(Record::Model(p + 1))
 }
 
-fn read_element(s: &[u8], w: usize, p: usize) -> Option<Record>
-    requires { RecordAt (recipe_at w s.now) p 2 (2 + 3 * w) }
-    ensures { result ≡ reading_of (recipe_at w s.now) p }
+fn read_element(s: &Source, p: usize) -> Option<Record>
+    requires { RecordAt (recipe s.now) p 2 (2 + 3 * s.now.width) }
+    ensures { result ≡ reading_of (recipe s.now) p }
 {
-    let Field::Name(_) = field_at(s, w, p, 0) else {
+    let Field::Name(_) = field_at(s, p, 0) else {
         return None;
     };
-    let class = s[p + 1 + w];
+    let class = s.bytes[p + 1 + s.width];
     if !flat_table::is_class(class) {
         return None;
     }
-    let (Field::Name(_) | Field::Blank) = field_at(s, w, p, w + 1) else {
+    let (Field::Name(_) | Field::Blank) = field_at(s, p, s.width + 1) else {
         return None;
     };
-    let (Field::Name(_) | Field::Blank) = field_at(s, w, p, w + (1 + w)) else {
+    let (Field::Name(_) | Field::Blank) = field_at(s, p, s.width + (1 + s.width)) else {
         return None;
     };
     Some(Record::Element(ElementFields {
         name: p + 1,
         class: class,
-        parent: p + 1 + (w + 1),
-        reference: p + 1 + (w + (1 + w)),
+        parent: p + 1 + (s.width + 1),
+        reference: p + 1 + (s.width + (1 + s.width)),
     }))
 }
 
-fn read_port(s: &[u8], w: usize, p: usize) -> Option<Record>
-    requires { RecordAt (recipe_at w s.now) p 3 (2 + 3 * w) }
-    ensures { result ≡ reading_of (recipe_at w s.now) p }
+fn read_port(s: &Source, p: usize) -> Option<Record>
+    requires { RecordAt (recipe s.now) p 3 (2 + 3 * s.now.width) }
+    ensures { result ≡ reading_of (recipe s.now) p }
 {
-    let Field::Name(_) = field_at(s, w, p, 0) else {
+    let Field::Name(_) = field_at(s, p, 0) else {
         return None;
     };
-    let (Field::Name(_) | Field::Blank) = field_at(s, w, p, w) else {
+    let (Field::Name(_) | Field::Blank) = field_at(s, p, s.width) else {
         return None;
     };
-    let Some(way) = read_target(s, w, p, w) else {
+    let Some(way) = read_target(s, p, s.width) else {
         return None;
     };
     Some(Record::Port(PortFields {
         name: p + 1,
-        submodel: p + 1 + w,
+        submodel: p + 1 + s.width,
         target: way,
     }))
 }
 
 // A submodel, whose name may not end with an underscore.
-fn read_submodel(s: &[u8], w: usize, p: usize) -> Option<Record>
-    requires { RecordAt (recipe_at w s.now) p 4 (1 + 2 * w) }
-    ensures { result ≡ reading_of (recipe_at w s.now) p }
+fn read_submodel(s: &Source, p: usize) -> Option<Record>
+    requires { RecordAt (recipe s.now) p 4 (1 + 2 * s.now.width) }
+    ensures { result ≡ reading_of (recipe s.now) p }
 {
-    let Field::Name(n) = field_at(s, w, p, 0) else {
+    let Field::Name(n) = field_at(s, p, 0) else {
         return None;
     };
-    if s[p + n] == 95 {
+    if s.bytes[p + n] == b'_' {
         return None;
     }
-    let Field::Name(_) = field_at(s, w, p, w) else {
+    let Field::Name(_) = field_at(s, p, s.width) else {
         return None;
     };
     Some(Record::Submodel(SubmodelFields {
         name: p + 1,
-        model: p + 1 + w,
+        model: p + 1 + s.width,
     }))
 }
 
 // The factors of a submodel.
-fn read_factors(s: &[u8], w: usize, p: usize) -> Option<Record>
-    requires { RecordAt (recipe_at w s.now) p 8 (1 + 3 * w) }
-    ensures { result ≡ reading_of (recipe_at w s.now) p }
+fn read_factors(s: &Source, p: usize) -> Option<Record>
+    requires { RecordAt (recipe s.now) p 8 (1 + 3 * s.now.width) }
+    ensures { result ≡ reading_of (recipe s.now) p }
 {
-    let Field::Name(_) = field_at(s, w, p, 0) else {
+    let Field::Name(_) = field_at(s, p, 0) else {
         return None;
     };
-    let (Field::Name(_) | Field::Blank) = field_at(s, w, p, w) else {
+    let (Field::Name(_) | Field::Blank) = field_at(s, p, s.width) else {
         return None;
     };
-    let (Field::Name(_) | Field::Blank) = field_at(s, w, p, w + w) else {
+    let (Field::Name(_) | Field::Blank) = field_at(s, p, s.width + s.width) else {
         return None;
     };
     Some(Record::Factors(FactorsFields {
         submodel: p + 1,
-        time: p + 1 + w,
-        extent: p + 1 + (w + w),
+        time: p + 1 + s.width,
+        extent: p + 1 + (s.width + s.width),
     }))
 }
 
 // The mark at p, of kind k.
-fn read_mark(s: &[u8], w: usize, p: usize, k: u8) -> Option<Mark>
-    requires { MarkAt (recipe_at w s.now) p k }
-    ensures { result ≡ mark_reading (recipe_at w s.now) p }
+fn read_mark(s: &Source, p: usize, k: u8) -> Option<Mark>
+    requires { MarkAt (recipe s.now) p k }
+    ensures { result ≡ mark_reading (recipe s.now) p }
 {
-    let o = submodel_offset(k, w);
-    let Field::Name(_) = field_at(s, w, p, 0) else {
+    let o = submodel_offset(k, s.width);
+    let Field::Name(_) = field_at(s, p, 0) else {
         return None;
     };
-    let Field::Name(_) = field_at(s, w, p, o) else {
+    let Field::Name(_) = field_at(s, p, o) else {
         return None;
     };
-    let Some(way) = read_target(s, w, p, o) else {
+    let Some(way) = read_target(s, p, o) else {
         return None;
     };
     Some(Mark {
@@ -429,30 +446,30 @@ fn read_mark(s: &[u8], w: usize, p: usize, k: u8) -> Option<Mark>
 }
 
 // The record at p, which row 2 does not refuse.
-pub fn read_record(s: &[u8], w: usize, p: usize) -> Option<Record>
-    requires { is_readable (recipe_at w s.now) p ≡ true }
-    ensures { result ≡ reading_of (recipe_at w s.now) p }
+pub fn read_record(s: &Source, p: usize) -> Option<Record>
+    requires { is_readable (recipe s.now) p ≡ true }
+    ensures { result ≡ reading_of (recipe s.now) p }
 {
-    let k = s[p];
-    if k == 1 {
-        return read_model(s, w, p);
+    let k = s.bytes[p];
+    if k == Kind::Model as u8 {
+        return read_model(s, p);
     }
-    if k == 2 {
-        return read_element(s, w, p);
+    if k == Kind::Element as u8 {
+        return read_element(s, p);
     }
-    if k == 3 {
-        return read_port(s, w, p);
+    if k == Kind::Port as u8 {
+        return read_port(s, p);
     }
-    if k == 4 {
-        return read_submodel(s, w, p);
+    if k == Kind::Submodel as u8 {
+        return read_submodel(s, p);
     }
-    if k == 8 {
-        return read_factors(s, w, p);
+    if k == Kind::Factors as u8 {
+        return read_factors(s, p);
     }
     if !is_mark(k) {
         return None;
     }
-    let Some(m) = read_mark(s, w, p, k) else {
+    let Some(m) = read_mark(s, p, k) else {
         return None;
     };
     if is_deletion(k) {
@@ -465,16 +482,14 @@ pub fn read_record(s: &[u8], w: usize, p: usize) -> Option<Record>
 }
 
 // The first record that row 3 refuses.
-pub fn first_unformed(s: &[u8], w: usize) -> Option<usize>
-    requires { (w ≤ 65536) × (stop (recipe_at w s.now) ≡ length s.now) }
-    ensures { result ≡ fault₃ (recipe_at w s.now) }
+pub fn first_unformed(s: &Source) -> Option<usize>
+    requires { (s.now.width ≤ 65536) × (stop (recipe s.now) ≡ length s.now.bytes.now) }
+    ensures { result ≡ fault₃ (recipe s.now) }
 {
-    let mut p = 0;
-    while p < s.len() {
-        let Some(_) = read_record(s, w, p) else {
+    for p in Records::of(s) {
+        let Some(_) = read_record(s, p) else {
             return Some(p);
         };
-        p += record_length(s[p], w);
     }
     None
 }

@@ -150,7 +150,8 @@ module _ {s : Recipe} {t at₀ fields₀ keys₀ at fields keys : List ℕ} {i p
           let room : i * w ≤ 16384 = omega (arith, g.room, g.walk.within, c.short) in
           record {
             few = omega arith;
-            room = record { whole = record { inside = omega arith; room = omega (arith, g.copying.long) }; enough = omega (arith, g.keying.long) };
+            room = record { inside = omega arith; room = omega (arith, g.copying.long) };
+            enough = omega (arith, g.keying.long);
             copied = λ j u. g.copying.done j (omega arith);
             keyed = λ j u. g.keying.done j (omega arith);
           }

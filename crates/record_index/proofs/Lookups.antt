@@ -4,7 +4,7 @@ use Rattle.std.specs.Prelude.{None, Option, Some, option_map}
 use mathlib.Core.Path.{◌≡◌, refl, sym, ap, ◌∙◌}
 use mathlib.Core.Bool.{Bool, true, false, not, ◌&&◌, ◌||◌}
 use mathlib.Core.List.{List, ◌∷◌}
-use Prim.Native.Nat.{ℕ, zero, suc, ◌+◌, ◌*◌, ◌≤◌, ◌<◌}
+use Prim.Native.Nat.{ℕ, zero, suc, ◌+◌, ◌*◌, ◌≤◌}
 use native.Mathlib.Omega.{arith}
 use lib.ListN.{length, get_or, drop, length-drop}
 use lib.Seq.{length-take-le}
@@ -13,37 +13,21 @@ use borrow.Author.Tests.{eqb-true, eq-eqb}
 use Rattle.names.specs.Lists.{In, keep, first, same}
 use Rattle.names.specs.Names.{text, field_at}
 use Rattle.names.specs.Scans.{scan}
-use Rattle.names.proofs.Tests.{by_cases, not-both, both, and_left, and_right}
+use Rattle.names.proofs.Tests.{by_cases, both, and_left, and_right}
 use Rattle.names.proofs.Lists.{in-keep, keep-in, none_first, some_first, first-none, first-is, same_true, eq-same, first-keep}
-use Rattle.names.proofs.Scans.{scan-same, scan-below}
+use Rattle.names.proofs.Scans.{scan-same}
 use Rattle.recipe.specs.Records.{Recipe, kind, places, is_model, is_element, is_port, is_submodel, first_field, name}
 use Rattle.recipe.specs.Definitions.{definitions, holder, records_of, elements, submodels, ports, named, definition_named, element_named, submodel_named, port_named}
 use Rattle.recipe.proofs.Rows.{first-name}
-use Rattle.record_index.specs.declared.Answer.{Answer}
+use Rattle.recipe.specs.Reading.{fault₄}
+use Rattle.name_index.specs.Positions.{count, entry}
 use Rattle.record_index.specs.declared.Sought.{Sought}
-use Rattle.record_index.specs.Entries.{tag_of, tag_at, key_of, IndexRequires, is_of, record_named, SoughtIn, answer_of}
+use Rattle.record_index.specs.declared.RecordIndex.{RecordIndex}
+use Rattle.record_index.specs.Indexed.{recipe_of}
+use Rattle.record_index.specs.Entries.{tag_of, tag_at, key_of, is_of, record_named, SoughtIn}
 use Rattle.record_index.proofs.Places.{first-numbered, first-same}
 use Rattle.record_index.proofs.Keys.{nothing, same_keys, same-fields}
-use Rattle.record_index.proofs.Repeats.{first-length, one_entry, entry, numbered, entry-is}
-
--- ---- what an answer says of the look-up
-pub answer-some : (o : Option ℕ) {a : Answer} → a ≡ answer_of o → a.missing ≡ false → o ≡ Some a.place
-unfolding answer_of
-answer-some None e m = not-both (ap (λ (x : Answer). x.missing) e) m
-answer-some (Some p) e m = ap Some (sym (ap (λ (x : Answer). x.place) e))
-
-pub answer-none : (o : Option ℕ) {a : Answer} → a ≡ answer_of o → a.missing ≡ true → o ≡ None
-unfolding answer_of
-answer-none None e m = refl
-answer-none (Some p) e m = not-both m (ap (λ (x : Answer). x.missing) e)
-
-some-answer : (o : Option ℕ) {p : ℕ} → o ≡ Some p → record { missing = false; place = p } ≡ answer_of o
-unfolding answer_of
-some-answer o e = rw e
-
-pub none-answer : (o : Option ℕ) → o ≡ None → record { missing = true; place = 0 } ≡ answer_of o
-unfolding answer_of
-none-answer o e = rw e
+use Rattle.record_index.proofs.Repeats.{first-length, one_entry, R, numbered, entry-is}
 
 -- ---- the space in which a record of kind k, of definition d, has its name
 by-four : (P : ℕ → Type 0) → P 1 → P 2 → P 3 → P 4 → (k : ℕ) → 1 ≤ k → k ≤ 4 → P k
@@ -73,101 +57,100 @@ space-one p h d =
     (λ e. let z : 8 * h + 1 ≡ 8 * d + 1 = e in eq-eqb h d (omega arith))
 
 -- ---- the look-up, by what the index answers
-module _ {s : Recipe} {at fields keys index : List ℕ} (x : IndexRequires s at fields keys index) {q : Sought} (g : SoughtIn s q) {t k : ℕ} {f : List ℕ}
-    (et : t ≡ tag_of q.kind 0 q.definition) (ef : f ≡ field_at s.width s.bytes q.name) (ek : k ≡ key_of t f) where
+module _ (x : RecordIndex) (once : fault₄ (recipe_of x) ≡ None) {q : Sought} (g : SoughtIn (recipe_of x) q) {t k : ℕ} {f : List ℕ} (et : t ≡ tag_of q.kind 0 q.definition)
+    (ef : f ≡ field_at x.source.now.width x.source.now.bytes.now q.name) (ek : k ≡ key_of t f) where
   -- what is sought, and the records among which it is
-  abbrev answered : Answer
-  answered = answer_of (record_named s q.kind q.definition (text (field_at s.width s.bytes q.name)))
+  abbrev answered : Option ℕ
+  answered = record_named (R x) q.kind q.definition (text (field_at x.source.now.width x.source.now.bytes.now q.name))
 
   abbrev among : List ℕ
-  among = keep (is_of s q.kind q.definition) (places s)
+  among = keep (is_of (R x) q.kind q.definition) (places (R x))
 
-  -- a record's name is the one looked for just where its first field is
-  same-named : (p : ℕ) → In p (places s) → same (first_field s p) f ≡ same (name s p) (text f)
+  -- a record'(R x) name is the one looked for just where its first field is
+  same-named : (p : ℕ) → In p (places (R x)) → same (first_field (R x) p) f ≡ same (name (R x) p) (text f)
   unfolding name field_at
   same-named p i =
-      let l : length f ≡ s.width = rw ef (length-take-le s.width (drop q.name s.bytes) (omega (arith, length-drop q.name s.bytes, g.room))) in
-      sym (same-fields (first_field s p) f (first-name s x.indexed.formed p i) (rw ef g.reads) (first-length s p i ∙ sym l))
+      let l : length f ≡ x.source.now.width = rw ef (length-take-le x.source.now.width (drop q.name x.source.now.bytes.now) (omega (arith, length-drop q.name x.source.now.bytes.now, g.room))) in
+      sym (same-fields (first_field (R x) p) f (first-name (R x) x.formed p i) (rw ef g.reads) (first-length (R x) p i ∙ sym l))
 
   -- one of them has its name in the space t, and a record of that kind which has is one of them
-  of-tag : (p : ℕ) → In p among → (kind s p ≡ q.kind) × (tag_at s p ≡ t)
+  of-tag : (p : ℕ) → In p among → (kind (R x) p ≡ q.kind) × (tag_at (R x) p ≡ t)
   unfolding is_of tag_at
   of-tag p i =
-      let e = (in-keep (is_of s q.kind q.definition) (places s) p i).1 in
-      let z = eqb-true (kind s p) q.kind (and_left (eqb (kind s p) q.kind) _ e) in
-      (z, rw (z, et) (one-space p (holder s p) q.definition q.kind g.least g.most (and_right (eqb (kind s p) q.kind) _ e)))
+      let e = (in-keep (is_of (R x) q.kind q.definition) (places (R x)) p i).1 in
+      let z = eqb-true (kind (R x) p) q.kind (and_left (eqb (kind (R x) p) q.kind) _ e) in
+      (z, rw (z, et) (one-space p (holder (R x) p) q.definition q.kind g.least g.most (and_right (eqb (kind (R x) p) q.kind) _ e)))
 
-  tag-of : (p : ℕ) → In p (places s) → kind s p ≡ q.kind → tag_at s p ≡ t → In p among
+  tag-of : (p : ℕ) → In p (places (R x)) → kind (R x) p ≡ q.kind → tag_at (R x) p ≡ t → In p among
   unfolding is_of tag_at
   tag-of p i z e =
-      keep-in (is_of s q.kind q.definition) (places s) p i
-      (both (eq-eqb (kind s p) q.kind z) (space-one p (holder s p) q.definition q.kind g.least g.most (rw (z, et) at e)))
+      keep-in (is_of (R x) q.kind q.definition) (places (R x)) p i
+      (both (eq-eqb (kind (R x) p) q.kind z) (space-one p (holder (R x) p) q.definition q.kind g.least g.most (rw (z, et) at e)))
 
-  none_here : ((p : ℕ) → In p among → same (name s p) (text f) ≡ false) → record { missing = true; place = 0 } ≡ answered
+  none_here : ((p : ℕ) → In p among → same (name (R x) p) (text f) ≡ false) → None ≡ answered
   unfolding record_named named
   none_here h =
-      none-answer (record_named s q.kind q.definition (text (field_at s.width s.bytes q.name)))
-      (rw (← ef) (first-none (λ p. same (name s p) (text f)) among h))
+      rw (← ef) (sym (first-none (λ p. same (name (R x) p) (text f)) among h))
 
   -- the index gives the first record whose name is in the space, and whose first field is f
   abbrev hits : ℕ → Bool
-  hits p = eqb (tag_at s p) t && same (first_field s p) f
+  hits p = eqb (tag_at (R x) p) t && same (first_field (R x) p) f
 
   abbrev gives : Option ℕ
-  gives = scan (λ i. same (entry s x.indexed i) (k ∷ f)) (length at)
+  gives = scan (λ i. same (entry x.names.records i) (k ∷ f)) (count x.names.records)
 
-  entry-scan : first hits (places s) ≡ option_map (numbered s x.indexed) gives
+  entry-scan : first hits (places (R x)) ≡ option_map (numbered x) gives
   entry-scan =
-      first-numbered hits (places s)
-      ∙ rw (x.indexed.listed, ek)
-      (ap (option_map (numbered s x.indexed))
-      (scan-same (λ i. hits (numbered s x.indexed i)) (λ i. same (entry s x.indexed i) (key_of t f ∷ f)) (length (places s))
+      first-numbered hits (places (R x))
+      ∙ rw (x.count, ek)
+      (ap (option_map (numbered x))
+      (scan-same (λ i. hits (numbered x i)) (λ i. same (entry x.names.records i) (key_of t f ∷ f)) (length (places (R x)))
       (λ i h.
-      let p = numbered s x.indexed i in
-      sym (ap (λ (l : List ℕ). same l (key_of t f ∷ f)) (entry-is s x.indexed i h) ∙ same_keys (tag_at s p) t (first_field s p) f))))
+      let p = numbered x i in
+      sym (ap (λ (l : List ℕ). same l (key_of t f ∷ f)) (entry-is x i h) ∙ same_keys (tag_at (R x) p) t (first_field (R x) p) f))))
 
-  pub sought-none : None ≡ gives → record { missing = true; place = 0 } ≡ answered
-  sought-none e =
+  pub sought-none : {o : Option ℕ} → o ≡ gives → o ≡ None → None ≡ answered
+  sought-none u v =
+      let e : None ≡ gives = sym v ∙ u in
       none_here
       (λ p i.
-      let j = (in-keep (is_of s q.kind q.definition) (places s) p i).0 in
-      let o = none_first hits (places s) p (entry-scan ∙ ap (option_map (numbered s x.indexed)) (sym e)) j in
-      sym (same-named p j) ∙ (rw (eq-eqb (tag_at s p) t (of-tag p i).1) at o))
+      let j = (in-keep (is_of (R x) q.kind q.definition) (places (R x)) p i).0 in
+      let o = none_first hits (places (R x)) p (entry-scan ∙ ap (option_map (numbered x)) (sym e)) j in
+      sym (same-named p j) ∙ (rw (eq-eqb (tag_at (R x) p) t (of-tag p i).1) at o))
 
-  module _ {i : ℕ} (e : Some i ≡ gives) where
-    pub sought-low : i < length at
-    sought-low = scan-below (λ i. same (entry s x.indexed i) (k ∷ f)) (length at) i (sym e)
+  module _ {i : ℕ} {o : Option ℕ} (u : o ≡ gives) (v : o ≡ Some i) where
+    e : Some i ≡ gives
+    e = sym v ∙ u
 
-    first-hit : first hits (places s) ≡ Some (get_or at i 0)
-    first-hit = entry-scan ∙ (ap (option_map (numbered s x.indexed)) (sym e) ∙ ap (λ (l : List ℕ). Some (get_or l i 0)) (sym x.indexed.listed))
+    first-hit : first hits (places (R x)) ≡ Some (get_or x.at.now i 0)
+    first-hit = entry-scan ∙ (ap (option_map (numbered x)) (sym e) ∙ ap (λ (l : List ℕ). Some (get_or l i 0)) (sym x.listed))
 
-    found : In (get_or at i 0) (places s) × (tag_at s (get_or at i 0) ≡ t) × (name s (get_or at i 0) ≡ text f)
+    found : In (get_or x.at.now i 0) (places (R x)) × (tag_at (R x) (get_or x.at.now i 0) ≡ t) × (name (R x) (get_or x.at.now i 0) ≡ text f)
     found =
-        let p = get_or at i 0 in
-        let r = some_first hits (places s) p first-hit in
-        let a = eqb-true (tag_at s p) t (and_left (eqb (tag_at s p) t) _ r.1) in
-        (r.0, a, same_true (name s p) (text f) (sym (same-named p r.0) ∙ and_right (eqb (tag_at s p) t) (same (first_field s p) f) r.1))
+        let p = get_or x.at.now i 0 in
+        let r = some_first hits (places (R x)) p first-hit in
+        let a = eqb-true (tag_at (R x) p) t (and_left (eqb (tag_at (R x) p) t) _ r.1) in
+        (r.0, a, same_true (name (R x) p) (text f) (sym (same-named p r.0) ∙ and_right (eqb (tag_at (R x) p) t) (same (first_field (R x) p) f) r.1))
 
-    pub sought-in : In (get_or at i 0) (places s)
+    pub sought-in : In (get_or x.at.now i 0) (places (R x))
     sought-in = found.0
 
-    only : (p : ℕ) → In p among → same (name s p) (text f) ≡ true → p ≡ get_or at i 0
+    only : (p : ℕ) → In p among → same (name (R x) p) (text f) ≡ true → p ≡ get_or x.at.now i 0
     only p j z =
-        one_entry s x.once p (get_or at i 0) (in-keep (is_of s q.kind q.definition) (places s) p j).0 found.0 ((of-tag p j).1 ∙ sym found.1)
-        (same_true (name s p) (text f) z ∙ sym found.2)
+        one_entry (R x) once p (get_or x.at.now i 0) (in-keep (is_of (R x) q.kind q.definition) (places (R x)) p j).0 found.0 ((of-tag p j).1 ∙ sym found.1)
+        (same_true (name (R x) p) (text f) z ∙ sym found.2)
 
-    module _ {p : ℕ} (ep : p ≡ get_or at i 0) where
-      pub sought-some : get_or s.bytes p 0 ≡ q.kind → record { missing = false; place = p } ≡ answered
+    module _ {p : ℕ} (ep : p ≡ get_or x.at.now i 0) where
+      pub sought-some : get_or x.source.now.bytes.now p 0 ≡ q.kind → Some p ≡ answered
       unfolding kind record_named named
       sought-some h =
-          some-answer (record_named s q.kind q.definition (text (field_at s.width s.bytes q.name)))
-          (rw (← ef, ep) (first-is (λ p. same (name s p) (text f)) among (get_or at i 0) (tag-of (get_or at i 0) found.0 (rw ep at h) found.1) (eq-same found.2) only))
+          rw (← ef, ep) (sym (first-is (λ p. same (name (R x) p) (text f)) among (get_or x.at.now i 0) (tag-of (get_or x.at.now i 0) found.0 (rw ep at h) found.1) (eq-same found.2) only))
 
-      pub sought-other : (get_or s.bytes p 0 ≡ q.kind → ⊥) → record { missing = true; place = 0 } ≡ answered
+      pub sought-other : (get_or x.source.now.bytes.now p 0 ≡ q.kind → ⊥) → None ≡ answered
       unfolding kind
       sought-other h =
           none_here
-          (λ r j. by_cases (same (name s r) (text f)) (λ u. absurd (h (rw ep (sym (ap (kind s) (only r j u)) ∙ (of-tag r j).0)))) (λ u. u))
+          (λ r j. by_cases (same (name (R x) r) (text f)) (λ u. absurd (h (rw ep (sym (ap (kind (R x)) (only r j u)) ∙ (of-tag r j).0)))) (λ u. u))
 
 -- ---- the look-ups of the definitions are those of a kind
 shuffled : (a b c m : Bool) → (b ≡ true → m ≡ false) → (not m && a) && (b && c) ≡ (b && (false || a)) && c

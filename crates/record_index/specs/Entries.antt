@@ -1,16 +1,14 @@
--- The key of a record, so that two records have one key and one first field where row 4 refuses the later; the index of the names, and what is sought in it.
+-- The key of a record, so that two records have one key and one first field where row 4 refuses the later; what the tables have, and what is sought in them.
 -- Assumes nothing.
-use Rattle.std.specs.Prelude.{ℕ, ◌+◌, ◌*◌, ◌%◌, ◌≤◌, ◌<◌, ◌≡◌, Bool, true, cond, not, ◌&&◌, ◌||◌, List, length, get_or, eqb, None, Option, is_some, unwrap_or}
+use Rattle.std.specs.Prelude.{ℕ, ◌+◌, ◌*◌, ◌%◌, ◌≤◌, ◌<◌, ◌≡◌, Bool, true, cond, ◌&&◌, ◌||◌, List, length, get_or, eqb, Option}
 use Rattle.names.specs.Lists.{keep}
 use Rattle.names.specs.Names.{is_name, field_at}
 use Rattle.name_index.specs.declared.Layout.{Layout}
 use Rattle.name_index.specs.Hash.{hash_of}
-use Rattle.name_index.specs.Index.{name_of, Keyed, Indexes}
+use Rattle.name_index.specs.Index.{name_of, Whole}
 use Rattle.recipe.specs.Records.{Recipe, port_kind, replaced_by_kind, kind, places, first_field}
 use Rattle.recipe.specs.Definitions.{holder, named}
-use Rattle.recipe.specs.Reading.{fault₃, fault₄}
 use Rattle.record_index.specs.declared.Sought.{Sought}
-use Rattle.record_index.specs.declared.Answer.{Answer}
 
 -- where a record of kind k at p, of definition d, has its name: models share one space; elements and submodels of a definition share one,
 -- its ports one, and its replaced-by's, by their owners; each record of another kind has one of its own
@@ -41,23 +39,10 @@ layout w = record { first = 0; stride = w; width = w }
 -- the tables have the first field and the key of each record, in order
 pub record Entered (s : Recipe) (fields keys : List ℕ) : Type 0 where
   pub few : length (places s) ≤ 1536
-  pub room : Keyed keys fields (layout s.width) (length (places s))
+  pub room : Whole fields (layout s.width) (length (places s))
+  pub enough : length (places s) ≤ length keys
   pub copied : (i : ℕ) → i < length (places s) → name_of fields (layout s.width) i ≡ first_field s (get_or (places s) i 0)
   pub keyed : (i : ℕ) → i < length (places s) → get_or keys i 0 ≡ key_at s (get_or (places s) i 0)
-
--- the places, first fields and keys, and the index of the records by key and first field, of a recipe that row 3 does not refuse
-pub record RecordIndex (s : Recipe) (at fields keys index : List ℕ) : Type 0 where
-  pub narrow : s.width ≤ 64
-  pub short : length s.bytes ≤ 16384
-  pub formed : fault₃ s ≡ None
-  pub listed : at ≡ places s
-  pub entered : Entered s fields keys
-  pub indexes : Indexes keys fields (layout s.width) (length (places s)) index
-
--- that of a recipe that row 4 does not refuse either
-pub record IndexRequires (s : Recipe) (at fields keys index : List ℕ) : Type 0 where
-  pub indexed : RecordIndex s at fields keys index
-  pub once : fault₄ s ≡ None
 
 -- a record of kind k, of definition d unless it is a model
 unfoldable pub is_of : Recipe → ℕ → ℕ → ℕ → Bool
@@ -74,7 +59,3 @@ pub record SoughtIn (s : Recipe) (q : Sought) : Type 0 where
   pub low : q.definition < 16384
   pub room : q.name + s.width ≤ length s.bytes
   pub reads : is_name (field_at s.width s.bytes q.name) ≡ true
-
--- the code's answer to a look-up: place 0 where there is none
-unfoldable pub answer_of : Option ℕ → Answer
-answer_of o = record { missing = not (is_some o); place = unwrap_or o 0 }

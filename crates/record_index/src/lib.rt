@@ -1,16 +1,18 @@
 // The index of a recipe's records by their names, and row 4.
-// For the floors above: index_names, first_repeated, find_record. The four tables are the index; where `at` is lent for a look-up it is cut to the number of records.
+// For the floors above: RecordIndex, which `of` makes in lent tables, and which answers first_repeated and find; Sought, what is looked up.
 #![tactic(auto)]
 
-ghost use Rattle.std.specs.Prelude.{◌≡◌, ◌+◌, ◌*◌, ◌≤◌, ◌<◌, length, take};
+ghost use Rattle.std.specs.Prelude.{◌≡◌, ◌+◌, ◌*◌, ◌≤◌, ◌<◌, None, length, take};
+ghost use Rattle.std.proofs.Props.{props};
 ghost use Rattle.names.specs.Lists.{In};
-ghost use Rattle.names.specs.Names.{field_at, text};
-ghost use Rattle.recipe.specs.Records.{recipe_at, places};
+ghost use Rattle.names.specs.Names.{text};
+ghost use Rattle.recipe.specs.Records.{recipe, places};
 ghost use Rattle.recipe.specs.Reading.{fault₃, fault₄};
 ghost use Rattle.shadow.specs.Columns.{Numbered};
-ghost use Rattle.record_index.specs.Entries.{tag_of, key_of, key_at, Entered, RecordIndex, IndexRequires, record_named, SoughtIn, answer_of};
+ghost use Rattle.record_index.specs.Entries.{tag_of, key_of, key_at, layout, Entered, record_named, SoughtIn};
 
-use name_index::Layout;
+use name_index::{Layout, NameIndex, Records};
+use recipe::{Kind, Source};
 
 // How many numbers a name has in a key.
 const NAME_NUMBERS: u32 = 32768;
@@ -23,11 +25,19 @@ pub struct Sought {
     pub name: usize,
 }
 
-// The record that a look-up gives, 0 where it is missing.
+// The records of a recipe that row 3 does not refuse: their places, and the index of their keys and first fields.
 #[derive(Clone, Copy)]
-pub struct Answer {
-    pub missing: bool,
-    pub place: u16,
+pub struct RecordIndex<'a> {
+    pub source: &'a Source<'a>,
+    pub at: &'a [u16],
+    pub names: NameIndex<'a>,
+    pub ghost narrow: { source.now.width ≤ 64 },
+    pub ghost short: { length source.now.bytes.now ≤ 16384 },
+    pub ghost formed: { fault₃ (recipe source.now) ≡ None } by { Prim.hlevel props },
+    pub ghost listed: { at.now ≡ places (recipe source.now) },
+    pub ghost layout: { names.records.layout ≡ layout source.now.width },
+    pub ghost count: { length names.records.keys.now ≡ length (places (recipe source.now)) },
+    pub ghost entered: { Entered (recipe source.now) names.records.bytes.now names.records.keys.now },
 }
 
 // Space n of the record at p: of a definition, or of a record that has one of its own.
@@ -43,7 +53,7 @@ fn tag(k: u8, p: usize, d: usize) -> u32
     requires { (p < 16384) × (d < 16384) }
     ensures { (result ≡ tag_of k p d) × (result < 131072) }
 {
-    if k == 1 {
+    if k == Kind::Model as u8 {
         return 0;
     }
     if recipe::is_port(k) {
@@ -52,7 +62,7 @@ fn tag(k: u8, p: usize, d: usize) -> u32
     if recipe::is_replaced_by(k) {
         return space(d, 3);
     }
-    if (k == 2) | (k == 4) {
+    if (k == Kind::Element as u8) | (k == Kind::Submodel as u8) {
         return space(d, 1);
     }
     space(p, 4)
@@ -67,119 +77,94 @@ fn key(t: u32, f: &[u8]) -> u32
 }
 
 // The key of the record at p.
-fn key_at(s: &[u8], w: usize, t: &[u16], p: usize) -> u32
-    requires { Numbered (recipe_at w s.now) t.now × In p (places (recipe_at w s.now)) }
-    ensures { result ≡ key_at (recipe_at w s.now) p }
+fn key_at(s: &Source, t: &[u16], p: usize) -> u32
+    requires { Numbered (recipe s.now) t.now × In p (places (recipe s.now)) }
+    ensures { result ≡ key_at (recipe s.now) p }
 {
     let d = shadow::cell(t, p, shadow::DEFINITION_OF);
-    key(tag(s[p], p, d), names::field_at(s, p + 1, w))
+    key(
+        tag(s.bytes[p], p, d),
+        names::field_at(s.bytes, p + 1, s.width),
+    )
 }
 
 // Writes the place, the first field and the key of each record, in order, and gives their number.
 fn enter_records(
-    s: &[u8],
-    w: usize,
+    s: &Source,
     t: &[u16],
     at: &mut [u16],
     fields: &mut [u8],
     keys: &mut [u32],
 ) -> usize
-    requires { Numbered (recipe_at w s.now) t.now × ((1536 ≤ length at.old) × ((16384 ≤ length fields.old) × (1536 ≤ length keys.old))) }
-    ensures { (take result at.new ≡ places (recipe_at w s.now)) × ((result ≡ length (places (recipe_at w s.now))) × Entered (recipe_at w s.now) fields.new keys.new) }
+    requires { Numbered (recipe s.now) t.now × ((1536 ≤ length at.old) × ((16384 ≤ length fields.old) × (1536 ≤ length keys.old))) }
+    ensures { (take result at.new ≡ places (recipe s.now)) × ((result ≡ length (places (recipe s.now))) × Entered (recipe s.now) fields.new keys.new) }
 {
     let mut i = 0;
-    let mut p = 0;
-    while p < s.len() {
+    for p in recipe::Records::of(s) {
         at[i] = p as u16;
-        names::put_bytes(s, p + 1, w, fields, i * w);
-        keys[i] = key_at(s, w, t, p);
+        names::put_bytes(s.bytes, p + 1, s.width, fields, i * s.width);
+        keys[i] = key_at(s, t, p);
         i += 1;
-        p += recipe::record_length(s[p], w);
     }
     i
 }
 
-// Fills the tables of the records and the index of their names; gives the number of records.
-pub fn index_names(
-    s: &[u8],
-    w: usize,
-    t: &[u16],
-    at: &mut [u16],
-    fields: &mut [u8],
-    keys: &mut [u32],
-    index: &mut [u16],
-) -> usize
-    requires { Numbered (recipe_at w s.now) t.now × ((fault₃ (recipe_at w s.now) ≡ None) × ((1536 ≤ length at.old) × ((16384 ≤ length fields.old) × ((1536 ≤ length keys.old) × (1536 ≤ length index.old))))) }
-    ensures { (result ≤ 1536) × RecordIndex (recipe_at w s.now) (take result at.new) fields.new keys.new index.new }
-{
-    let n = enter_records(s, w, t, at, fields, keys);
-    let l = Layout {
-        first: 0,
-        stride: w,
-        width: w,
-    };
-    name_index::build(fields, l, n, keys, index);
-    n
-}
+impl<'a> RecordIndex<'a> {
+    ghost use Rattle.record_index.specs.Indexed.{recipe_of, field_in};
 
-// The first record to which row 4 applies.
-pub fn first_repeated(
-    s: &[u8],
-    w: usize,
-    at: &[u16],
-    fields: &[u8],
-    keys: &[u32],
-    index: &[u16],
-) -> Option<usize>
-    requires { RecordIndex (recipe_at w s.now) at.now fields.now keys.now index.now }
-    ensures { result ≡ fault₄ (recipe_at w s.now) }
-{
-    let l = Layout {
-        first: 0,
-        stride: w,
-        width: w,
-    };
-    let Some(i) = name_index::first_repeat(fields, l, at.len(), keys, index) else {
-        return None;
-    };
-    Some(shadow::cell(at, i, 0))
-}
-
-// Looks a record up.
-pub fn find_record(
-    s: &[u8],
-    w: usize,
-    at: &[u16],
-    fields: &[u8],
-    keys: &[u32],
-    index: &[u16],
-    q: Sought,
-) -> Answer
-    requires { IndexRequires (recipe_at w s.now) at.now fields.now keys.now index.now × SoughtIn (recipe_at w s.now) q }
-    ensures { result ≡ answer_of (record_named (recipe_at w s.now) q.kind q.definition (text (field_at w s.now q.name))) }
-{
-    let l = Layout {
-        first: 0,
-        stride: w,
-        width: w,
-    };
-    let f = names::field_at(s, q.name, w);
-    let k = key(tag(q.kind, 0, q.definition), f);
-    let Some(i) = name_index::find(fields, l, at.len(), keys, index, k, f) else {
-        return Answer {
-            missing: true,
-            place: 0,
+    // The index of a recipe's records, in the tables lent.
+    pub fn of(
+        s: &'a Source<'a>,
+        t: &[u16],
+        at: &'a mut [u16],
+        fields: &'a mut [u8],
+        keys: &'a mut [u32],
+        order: &'a mut [u16],
+    ) -> RecordIndex<'a>
+        requires numbered { Numbered (recipe s.now) t.now }
+        requires formed { fault₃ (recipe s.now) ≡ None }
+        requires rooms { (1536 ≤ length at.old) × ((16384 ≤ length fields.old) × ((1536 ≤ length keys.old) × (1536 ≤ length order.old))) }
+        ensures { recipe_of result ≡ recipe s.now }
+    {
+        let n = enter_records(s, t, at, fields, keys);
+        let records = Records {
+            bytes: fields,
+            layout: Layout {
+                first: 0,
+                stride: s.width,
+                width: s.width,
+            },
+            keys: &keys[..n],
         };
-    };
-    let p = shadow::cell(at, i, 0);
-    if s[p] == q.kind {
-        return Answer {
-            missing: false,
-            place: p as u16,
-        };
+        let names = NameIndex::build(records, &mut order[..n]);
+        RecordIndex {
+            source: s,
+            at: &at[..n],
+            names,
+        }
     }
-    Answer {
-        missing: true,
-        place: 0,
+
+    // The first record to which row 4 applies.
+    pub fn first_repeated(&self) -> Option<usize>
+        ensures { result ≡ fault₄ (recipe_of self.now) }
+    {
+        let i = self.names.first_repeat()?;
+        Some(self.at[i] as usize)
+    }
+
+    // The record sought, of a recipe that row 4 does not refuse.
+    pub fn find(&self, q: Sought) -> Option<u16>
+        requires once { fault₄ (recipe_of self.now) ≡ None }
+        requires sought { SoughtIn (recipe_of self.now) q }
+        ensures { result ≡ record_named (recipe_of self.now) q.kind q.definition (text (field_in self.now q.name)) }
+    {
+        let f = names::field_at(self.source.bytes, q.name, self.source.width);
+        let k = key(tag(q.kind, 0, q.definition), f);
+        let i = self.names.find(k, f)?;
+        let p = self.at[i];
+        if self.source.bytes[p as usize] == q.kind {
+            return Some(p);
+        }
+        None
     }
 }

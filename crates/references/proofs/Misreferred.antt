@@ -5,7 +5,7 @@ use Prim.Native.Nat.{◌*◌, ◌+◌, ◌<◌, ◌≤◌, ℕ}
 use borrow.Author.Tests.{eq-eqb, eqb-false, eqb-true, ltb-false, ltb-true}
 use lib.Dec.{eqb, ltb}
 use lib.ListN.{get_or, length, set}
-use mathlib.Core.Bool.{Bool, ◌&&◌, false, true}
+use mathlib.Core.Bool.{Bool, ◌&&◌, false, not, true}
 use mathlib.Core.List.{List}
 use mathlib.Core.Path.{◌∙◌, ◌≡◌, ap, refl, sym}
 use native.Mathlib.Omega.{arith}
@@ -17,7 +17,7 @@ use Rattle.recipe.proofs.Reading.{lowest-place}
 use Rattle.tree.specs.Numbers.{number}
 use Rattle.tree.specs.Tree.{Node, tree_elements}
 use Rattle.tree.proofs.Numbering.{number-inj}
-use Rattle.marks.specs.Cells.{ElementsRequires}
+use Rattle.targets.specs.Targeted.{Targeted}
 use Rattle.marks.specs.Faults.{fault₁₂, is_reference_fault}
 use Rattle.marks.specs.Marks.{survivors}
 use Rattle.marks.proofs.Survivors.{survives, survivor}
@@ -27,8 +27,7 @@ use Rattle.elements.specs.Listing.{Only}
 use Rattle.elements.proofs.Elements.{ColumnFilled, below_more, column-over, element-at, element-held, filled-end, filled-one, filled-skip, filled-start, number-low, only_same, only_set, row-element, row_room, rows-over}
 use Rattle.elements.proofs.Gone.{gone-told}
 use Rattle.references.specs.Ends.{Ends, end_of}
-use Rattle.references.specs.References.{EndAt, FaultAt, Referring}
-use Rattle.references.proofs.References.{referring}
+use Rattle.references.specs.References.{EndAt, FaultAt}
 
 -- ---- the lowest record at fault, of the survivors with numbers below e
 pub record Lowest (s : Recipe) (e : ℕ) (lowest : Option ℕ) : Type 0 where
@@ -110,48 +109,48 @@ pub passed-start : (s : Recipe) (el : List ℕ) → Passed s el el 0 None
 passed-start s el = record { least = lowest_start s; only = only_same 4 el; ends = filled-start s (survivors s) 4 (end_of s) el }
 
 -- what `first_misreferred` requires
-abbrev Asked : Recipe → List ℕ → List ℕ → ℕ → Type 0
-Asked s t el₀ n = ElementsRequires s t × (ElementRows s el₀ × (Gones s el₀ × (Nexts s el₀ × (n ≡ length (tree_elements s)))))
+abbrev Asked : Recipe → List ℕ → Type 0
+Asked s el₀ = ElementRows s el₀ × (Gones s el₀ × Nexts s el₀)
 
-module _ {s : Recipe} {t el₀ el : List ℕ} {n e : ℕ} {lowest : Option ℕ} (A : Asked s t el₀ n) (P : Passed s el₀ el e lowest) where
+module _ {s : Recipe} {t inst el₀ el : List ℕ} {insts n e : ℕ} {lowest : Option ℕ} (T : Targeted s t inst insts) (count : n ≡ length (tree_elements s)) (A : Asked s el₀) (P : Passed s el₀ el e lowest) where
   pub passed-end : n ≤ e → (lowest ≡ fault₁₂ s) × (Ends s el × Only 4 el₀ el)
   passed-end l =
-      let all : (x : Node) → In x (survivors s) → number s x < e = λ x i. omega (arith, number-low s A.0.row₇ x (survivor s x i).0, A.1.1.1.1) in
+      let all : (x : Node) → In x (survivors s) → number s x < e = λ x i. omega (arith, number-low s T.planted.row₇ x (survivor s x i).0, count) in
       (lowest-end P.least all, (filled-end s (survivors s) 4 (end_of s) el e all P.ends, P.only))
 
   pub passed-rows : ElementRows s el
-  passed-rows = rows-over s P.only (omega arith) A.1.0
+  passed-rows = rows-over s P.only (omega arith) A.0
 
   passed-gones : Gones s el
-  passed-gones = column-over s P.only 2 (omega arith) (λ z. omega arith) A.1.1.0
+  passed-gones = column-over s P.only 2 (omega arith) (λ z. omega arith) A.1.0
 
   pub passed-nexts : Nexts s el
-  passed-nexts = column-over s P.only 3 (omega arith) (λ z. omega arith) A.1.1.1.0
+  passed-nexts = column-over s P.only 3 (omega arith) (λ z. omega arith) A.1.1
 
   module _ (l : e < n) where
     pub turn-number : Numbers s e
-    turn-number = element-at s A.0.row₇ e (omega (arith, A.1.1.1.1))
+    turn-number = element-at s T.planted.row₇ e (omega (arith, count))
 
     pub turn-element : {p : ℕ} → p ≡ get_or el (5 * e + 0) 0 → Element s e p
-    turn-element r = row-element A.0.row₇ passed-rows turn-number r
+    turn-element r = row-element T.planted.row₇ passed-rows turn-number r
 
     -- it is gone
-    pub turn-gone : {c : ℕ} → c ≡ get_or el (5 * e + 2) 0 → (c ≡ 0 → ⊥) → Passed s el₀ el (e + 1) lowest
+    pub turn-gone : {b : Bool} → b ≡ not (eqb (get_or el (5 * e + 2) 0) 0) → b ≡ true → Passed s el₀ el (e + 1) lowest
     turn-gone r z =
-        let gone : (x : Node) → In x (survivors s) → number s x ≡ e → ⊥ = λ x i m. not-both ((gone-told s el passed-gones r x (survivor s x i).0 m).0 z) (survivor s x i).1 in
+        let gone : (x : Node) → In x (survivors s) → number s x ≡ e → ⊥ = λ x i m. not-both (sym (gone-told s el passed-gones r x (survivor s x i).0 m) ∙ z) (survivor s x i).1 in
         record { least = lowest-more P.least (λ x i m. absurd (gone x i m)); only = P.only; ends = filled-skip s (survivors s) 4 (end_of s) el e gone P.ends }
 
     -- it survives, and v is written for the end of its chain
     module _ (v : ℕ) {el' : List ℕ} (w : el' ≡ set el (5 * e + 4) v) where
-      pub turn-referring : Referring s el'
-      turn-referring =
+      pub turn-judged : ElementRows s el' × Gones s el'
+      turn-judged =
           let o = only_set {k = 4} (omega arith) (only_same 4 el) e v in
-          rw w (referring A.0 (rows-over s o (omega arith) passed-rows) (column-over s o 2 (omega arith) (λ z. omega arith) passed-gones))
+          rw w (rows-over s o (omega arith) passed-rows, column-over s o 2 (omega arith) (λ z. omega arith) passed-gones)
 
       module _ (V : EndAt s e v) {u : Bool} (F : FaultAt s e u) where
         written : {m : Option ℕ} → Lowest s (e + 1) m → Passed s el₀ el' (e + 1) m
         written L =
-            let room = row_room A.0.row₇ passed-rows turn-number in
+            let room = row_room T.planted.row₇ passed-rows turn-number in
             rw w (record {
               least = L;
               only = only_set (omega arith) P.only e v;
@@ -161,8 +160,8 @@ module _ {s : Recipe} {t el₀ el : List ℕ} {n e : ℕ} {lowest : Option ℕ} 
         pub turn-fit : u ≡ false → Passed s el₀ el' (e + 1) lowest
         turn-fit h = written (lowest-more P.least (λ x i m. sym (F x (survivor s x i).0 m) ∙ h))
 
-        pub turn-fault : {c p : ℕ} → c ≡ get_or el (5 * e + 2) 0 → p ≡ get_or el (5 * e + 0) 0 → c ≡ 0 → u ≡ true → Passed s el₀ el' (e + 1) (Some (min (unwrap_or lowest p) p))
+        pub turn-fault : {b : Bool} {p : ℕ} → b ≡ not (eqb (get_or el (5 * e + 2) 0) 0) → p ≡ get_or el (5 * e + 0) 0 → b ≡ false → u ≡ true → Passed s el₀ el' (e + 1) (Some (min (unwrap_or lowest p) p))
         turn-fault rc rp z h =
             let E = turn-element rp in
-            let i = survives s E.it E.tree ((gone-told s el passed-gones rc E.it E.tree E.num).1 z) in
-            written (lowest-take P.least E.it i E.at (sym (F E.it E.tree E.num) ∙ h) (λ y j m. number-inj s A.0.row₇ y E.it (survivor s y j).0 E.tree (m ∙ sym E.num)))
+            let i = survives s E.it E.tree (sym (gone-told s el passed-gones rc E.it E.tree E.num) ∙ z) in
+            written (lowest-take P.least E.it i E.at (sym (F E.it E.tree E.num) ∙ h) (λ y j m. number-inj s T.planted.row₇ y E.it (survivor s y j).0 E.tree (m ∙ sym E.num)))

@@ -1,8 +1,8 @@
 -- Row 12's pass: the reference of an element, the end of its chain, and the lowest record of a survivor whose reference is at fault.
 -- Assumes nothing.
-use Rattle.std.specs.Prelude.{None, Some, unwrap_or}
+use Rattle.std.specs.Prelude.{None, Option, Some, option_map}
 use Prim.Native.Nat.{◌*◌, ◌+◌, ◌-◌, ◌<◌, ◌≤◌, ℕ}
-use borrow.Author.Tests.{eqb-false, eqb-true}
+use borrow.Author.Tests.{eqb-true}
 use lib.Dec.{eqb}
 use lib.ListN.{get_or, length}
 use mathlib.Core.Bool.{Bool, ◌&&◌, ◌||◌, false, not, true}
@@ -11,27 +11,28 @@ use mathlib.Core.Path.{◌∙◌, ◌≡◌, ap, refl, sym}
 use native.Mathlib.Omega.{arith}
 use Rattle.names.specs.Lists.{In}
 use Rattle.names.specs.Names.{is_blank}
-use Rattle.names.proofs.Tests.{by_cases, by-option}
+use Rattle.names.proofs.Tests.{by-option}
 use Rattle.flat_table.specs.Classes.{reference_allowed}
 use Rattle.recipe.specs.Definitions.{element_in}
 use Rattle.recipe.specs.Records.{Recipe, byte, class, is_element, kind, next, places, reference_field}
 use Rattle.recipe.proofs.Going.{class_low}
 use Rattle.recipe.proofs.Reading.{readable, readable-fits}
 use Rattle.recipe.proofs.RecordLengths.{length_three}
+use Rattle.shadow.specs.Shadow.{linked}
 use Rattle.tree.specs.Numbers.{number}
 use Rattle.tree.specs.Tree.{Node, node, reference_of, tree_elements}
 use Rattle.tree.proofs.Nodes.{reference-in}
 use Rattle.tree.proofs.Numbering.{number-few}
-use Rattle.marks.specs.Cells.{ElementsRequires}
+use Rattle.targets.specs.Targeted.{Targeted}
 use Rattle.elements.specs.Columns.{ElementRows, Gones, Nexts}
 use Rattle.references.specs.Ends.{end_of}
 use Rattle.marks.specs.Faults.{is_reference, is_reference_fault}
 use Rattle.elements.specs.Gone.{Element, Numbers}
 use Rattle.marks.specs.Marks.{chain_end, is_gone}
-use Rattle.references.specs.References.{EndAt, FaultAt, Referring, UnfitAt}
+use Rattle.references.specs.References.{EndAt, FaultAt, UnfitAt}
 use Rattle.references.specs.Ends.{Stepping, followed}
 use Rattle.marks.proofs.Chain.{chain-in}
-use Rattle.elements.proofs.Elements.{of-element, element-held, element-room, names-none, names-some, place_is, row-place, sibling-number}
+use Rattle.elements.proofs.Elements.{of-element, element-held, element-room, link_is, place_is, row-place, sibling-number}
 use Rattle.references.proofs.Ends.{end-law, stepping}
 use Rattle.elements.proofs.Gone.{gone-told}
 
@@ -44,30 +45,30 @@ module _ (s : Recipe) where
       omega (arith, readable-fits s p (readable s p i), length_three s.width (kind s p) (omega arith) (omega arith) (λ z. omega arith) (λ z. omega arith) (λ z. omega arith))
 
 -- ---- the end of the chain from a reference
-module _ {s : Recipe} {t el : List ℕ} (K : ElementsRequires s t) (R : ElementRows s el) (G : Nexts s el) {e p : ℕ} (E : Element s e p) where
+module _ {s : Recipe} {t inst el : List ℕ} {insts : ℕ} (T : Targeted s t inst insts) (R : ElementRows s el) (G : Nexts s el) {e p : ℕ} (E : Element s e p) where
   abbrev x : Node
   x = E.it
 
   pub referring-room : p + 13 ≤ length t
-  referring-room = omega (arith, element-room K x E.tree, E.at)
+  referring-room = omega (arith, element-room T x E.tree, E.at)
 
-  module _ {m : ℕ} (r : m ≡ get_or t (p + 4) 0) where
-    refers-is : m ≡ unwrap_or (element_in s x.place (reference_field s x.place)) 0
+  module _ {o : Option ℕ} (r : o ≡ linked (get_or t (p + 4) 0)) where
+    refers-is : o ≡ element_in s x.place (reference_field s x.place)
     refers-is =
         let i = element-held s x E.tree in
-        r ∙ ap (λ (z : ℕ). get_or t (z + 4) 0) (sym E.at) ∙ K.aimed.measured.linked.references x.place i.placed i.passes
+        r ∙ link_is s x (reference_field s x.place) (ap (λ (z : ℕ). get_or t (z + 4) 0) (sym E.at) ∙ T.aimed.measured.linked.references x.place i.placed i.passes)
 
-    pub end_none : m ≡ 0 → EndAt s e 0
+    pub end_none : o ≡ None → EndAt s e 0
     unfolding end_of reference_of
-    end_none z = of-element K.row₇ E (end_of s) (rw (names-none s x (reference_field s x.place) refers-is z, end_of))
+    end_none z = of-element T.planted.row₇ E (end_of s) (rw (sym refers-is ∙ z, end_of))
 
-    module _ (n : m ≡ 0 → ⊥) where
+    module _ {m : ℕ} (n : o ≡ Some m) where
       abbrev y : Node
       y = node x.path m
 
       a-reference : reference_of s x ≡ Some y
       unfolding reference_of
-      a-reference = names-some s x (reference_field s x.place) refers-is n
+      a-reference = ap (option_map (node x.path)) (sym refers-is ∙ n)
 
       pub named-tree : In y (tree_elements s)
       named-tree = reference-in s x y E.tree a-reference
@@ -75,32 +76,29 @@ module _ {s : Recipe} {t el : List ℕ} (K : ElementsRequires s t) (R : ElementR
       module _ {a c : ℕ} (u : a ≡ get_or t (p + 1) 0) (v : c ≡ get_or t (m + 1) 0) where
         -- what `chain_end` requires
         pub reference-steps : Stepping el (e - a + c)
-        reference-steps = rw (sibling-number K E m named-tree u v).1 (stepping s K.aimed.measured.linked.row₅ K.row₇ el G y named-tree R.room)
+        reference-steps = rw (sibling-number T E m named-tree u v).1 (stepping s T.aimed.measured.linked.row₅ T.planted.row₇ el G y named-tree R.room)
 
         module _ {z : ℕ} (q : z ≡ followed el 5 (e - a + c)) where
           end_is : z ≡ number s (chain_end s y)
-          end_is = q ∙ ap (followed el 5) (sibling-number K E m named-tree u v).1 ∙ end-law s K.aimed.measured.linked.row₅ K.row₇ el G y named-tree
+          end_is = q ∙ ap (followed el 5) (sibling-number T E m named-tree u v).1 ∙ end-law s T.aimed.measured.linked.row₅ T.planted.row₇ el G y named-tree
 
           pub end-few : z < 1024
           unfolding chain_end
-          end-few = omega (arith, end_is, number-few s K.row₇ (chain_end s y) (chain-in s K.aimed.measured.linked.row₅ K.row₇ 5 y named-tree))
+          end-few = omega (arith, end_is, number-few s T.planted.row₇ (chain_end s y) (chain-in s T.aimed.measured.linked.row₅ T.planted.row₇ 5 y named-tree))
 
           pub end-some : EndAt s e (z + 1)
           unfolding end_of
-          end-some = of-element K.row₇ E (end_of s) (rw (a-reference, end_of) (ap (λ (k : ℕ). k + 1) end_is))
+          end-some = of-element T.planted.row₇ E (end_of s) (rw (a-reference, end_of) (ap (λ (k : ℕ). k + 1) end_is))
 
 -- ---- whether an end does
-module _ {s : Recipe} {el : List ℕ} (R : Referring s el) {z : ℕ} (N : Numbers s z) where
+module _ {s : Recipe} {t inst el : List ℕ} {insts : ℕ} (T : Targeted s t inst insts) (R : ElementRows s el) {z : ℕ} (N : Numbers s z) where
   pub row-class : {q : ℕ} → q ≡ get_or el (5 * z + 0) 0 → q + 1 + s.width < length s.bytes
-  row-class {q} r = let P = row-place R.row₇ R.rows N r in class_low s q P.0 P.1
+  row-class {q} r = let P = row-place T.planted.row₇ R N r in class_low s q P.0 P.1
 
-  pub unfit : (c : ℕ) {q g : ℕ} {k b : Bool} → q ≡ get_or el (5 * z + 0) 0 → g ≡ get_or el (5 * z + 2) 0 → b ≡ not (eqb g 0) → k ≡ reference_allowed c (Some (get_or s.bytes (q + 1 + s.width) 0))
+  pub unfit : Gones s el → (c : ℕ) {q : ℕ} {k b : Bool} → q ≡ get_or el (5 * z + 0) 0 → b ≡ not (eqb (get_or el (5 * z + 2) 0) 0) → k ≡ reference_allowed c (Some (get_or s.bytes (q + 1 + s.width) 0))
       → UnfitAt s c z (b || not k)
   unfolding class byte
-  unfit c {q} {g} {k} {b} r rg rb rk v i e =
-      let T = gone-told s el R.gones rg v i e in
-      let G : b ≡ is_gone s v = rb ∙ by_cases (eqb g 0) (λ h. rw (h, T.1 (eqb-true g 0 h))) (λ h. rw (h, T.0 (eqb-false g 0 h))) in
-      rw (G, rk, r, place_is R.row₇ R.rows v i e)
+  unfit G c r rg rk v i e = rw (gone-told s el G rg v i e, rk, r, place_is T.planted.row₇ R v i e)
 
 -- ---- the test, of an element at p
 module _ (s : Recipe) (v : Node) (p : ℕ) (a : v.place ≡ p) where
@@ -122,16 +120,16 @@ module _ (s : Recipe) (v : Node) (p : ℕ) (a : v.place ≡ p) where
       neither false k = refl
 
 -- ---- the reference of an element, by the end of its chain
-module _ {s : Recipe} {el : List ℕ} (R : Referring s el) {e p : ℕ} (E : Element s e p) {b : Bool} (q : b ≡ is_blank (reference_field s p)) where
+module _ {s : Recipe} {t inst : List ℕ} {insts : ℕ} (T : Targeted s t inst insts) {e p : ℕ} (E : Element s e p) {b : Bool} (q : b ≡ is_blank (reference_field s p)) where
   pub fault-blank : {k : Bool} → b ≡ true → k ≡ reference_allowed (get_or s.bytes (p + 1 + s.width) 0) None → FaultAt s e (not k)
   unfolding class byte
-  fault-blank h k = of-element R.row₇ E (is_reference_fault s) (ap not k ∙ sym (test-blank s E.it p E.at (sym q ∙ h)))
+  fault-blank h k = of-element T.planted.row₇ E (is_reference_fault s) (ap not k ∙ sym (test-blank s E.it p E.at (sym q ∙ h)))
 
   pub fault-none : b ≡ false → EndAt s e 0 → FaultAt s e true
   unfolding end_of
   fault-none h Z =
       by-option (reference_of s E.it)
-      (λ o. of-element R.row₇ E (is_reference_fault s) (sym (test-none s E.it p E.at (sym q ∙ h) o)))
+      (λ o. of-element T.planted.row₇ E (is_reference_fault s) (sym (test-none s E.it p E.at (sym q ∙ h) o)))
       (λ y o. let k : 0 ≡ number s (chain_end s y) + 1 = Z E.it E.tree E.num ∙ rw (o, end_of) in absurd (omega arith))
 
   module _ {z : ℕ} (Z : EndAt s e (z + 1)) where
@@ -142,7 +140,7 @@ module _ {s : Recipe} {el : List ℕ} (R : Referring s el) {e p : ℕ} (E : Elem
         (λ o. let k : z + 1 ≡ 0 = Z E.it E.tree E.num ∙ rw (o, end_of) in absurd (omega arith))
         (λ y o.
         let k : z + 1 ≡ number s (chain_end s y) + 1 = Z E.it E.tree E.num ∙ rw (o, end_of) in
-        (y, (o, (chain-in s R.row₅ R.row₇ 5 y (reference-in s E.it y E.tree o), omega arith))))
+        (y, (o, (chain-in s T.aimed.measured.linked.row₅ T.planted.row₇ 5 y (reference-in s E.it y E.tree o), omega arith))))
 
     -- what `is_unfit` requires
     pub end-numbers : Numbers s z
@@ -152,15 +150,4 @@ module _ {s : Recipe} {el : List ℕ} (R : Referring s el) {e p : ℕ} (E : Elem
     unfolding class byte
     fault-end h U =
         let r = reaches in
-        of-element R.row₇ E (is_reference_fault s) (U (chain_end s r.0) r.1.1.0 r.1.1.1 ∙ sym (test-end s E.it p E.at r.0 (sym q ∙ h) r.1.0))
-
--- ---- what judging takes, of what the pass has
-pub referring : {s : Recipe} {t el : List ℕ} → ElementsRequires s t → ElementRows s el → Gones s el → Referring s el
-referring K R G = record {
-  narrow = K.aimed.measured.linked.numbered.shadowed.narrow;
-  short = K.aimed.measured.linked.numbered.shadowed.short;
-  row₅ = K.aimed.measured.linked.row₅;
-  row₇ = K.row₇;
-  rows = R;
-  gones = G;
-}
+        of-element T.planted.row₇ E (is_reference_fault s) (U (chain_end s r.0) r.1.1.0 r.1.1.1 ∙ sym (test-end s E.it p E.at r.0 (sym q ∙ h) r.1.0))

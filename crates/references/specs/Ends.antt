@@ -1,16 +1,17 @@
 -- The end of a chain: by the column of steps, and from the reference of a survivor, column 4.
 -- Assumes nothing.
-use Rattle.std.specs.Prelude.{◌*◌, ◌+◌, ◌-◌, ◌<◌, ◌≤◌, suc, zero, ℕ, eqb, get_or, length, cond, List, ◌≡◌, None, Option, Some}
+use Rattle.std.specs.Prelude.{◌*◌, ◌+◌, ◌<◌, ◌≤◌, suc, zero, ℕ, get_or, length, List, ◌≡◌, None, Option, Some}
 use Rattle.names.specs.Lists.{In}
 use Rattle.recipe.specs.Records.{Recipe}
 use Rattle.tree.specs.Numbers.{number}
 use Rattle.tree.specs.Tree.{Node, reference_of}
 use Rattle.marks.specs.Marks.{chain_end, survivors}
+use Rattle.elements.specs.Steps.{next_of}
 
 -- the number that n steps at most lead to from the element of number z
 unfoldable pub followed : List ℕ → ℕ → ℕ → ℕ
 followed el zero z = z
-followed el (suc n) z = cond (eqb (get_or el (5 * z + 3) 0) 0) z (followed el n (get_or el (5 * z + 3) 0 - 1))
+followed el (suc n) z = elim (next_of (get_or el (5 * z + 3) 0)) [ None ↦ z | Some y ↦ followed el n y ]
 
 -- e is one of so many elements, and each one's step leads to one of them
 pub record Stepping (el : List ℕ) (e : ℕ) : Type 0 where

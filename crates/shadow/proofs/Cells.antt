@@ -195,10 +195,3 @@ module _ {s : Recipe} {ks : List ℕ} {f : ℕ → ℕ → ℕ} {t₀ t : List �
   -- at the end, and past writes of other cells
   pub filling-end : ((x : ℕ) → In x (places s) → x < p) → (k : ℕ) → In k ks → Cell (places s) k (f k) t
   filling-end end k m x i = g.done k m x i (end x i)
-
-  pub filling-over : {js t' : List ℕ} → Kept s js t t' → every (λ k. ltb k 13 && not (among k js)) ks ≡ true → Filling s ks f t₀ t' p
-  filling-over {js} {t'} o n =
-      let same : (k : ℕ) → In k ks → (x : ℕ) → In x (places s) → get_or t' (x + k) 0 ≡ get_or t (x + k) 0 = λ k m x i.
-      let b = every_in (λ k. ltb k 13 && not (among k js)) ks k n m in
-      o.as-was x k i (ltb-true k 13 (and_left (ltb k 13) _ b)) (not-true (among k js) (and_right (ltb k 13) _ b)) in
-      record { done = λ k m x i l. same k m x i ∙ g.done k m x i l; ahead = λ k m x i l. same k m x i ∙ g.ahead k m x i l }

@@ -1,19 +1,19 @@
 -- The submodels of a definition, one behind another: which is the next behind a record.
 -- Assumes nothing.
-use Rattle.std.specs.Prelude.{None, Option, Some, unwrap_or}
+use Rattle.std.specs.Prelude.{None, Some}
 use Prim.Native.Nat.{◌+◌, ◌<◌, ◌≤◌, suc, zero, ℕ}
 use borrow.Author.Tests.{eq-eqb, eqb-true, le-ltb, lt-ltb, ltb-false, ltb-true, ne_eqb, not-true}
 use lib.Dec.{eqb, ltb}
 use lib.ListN.{get_or, length}
 use mathlib.Core.Bool.{Bool, ◌&&◌, false, not, true}
-use mathlib.Core.List.{List, [], ◌++◌, ◌∷◌, append_assoc}
+use mathlib.Core.List.{List, [], ◌∷◌}
 use mathlib.Core.Logic.{inl, inr, ⊎_elim}
 use mathlib.Core.Path.{◌∙◌, ◌≡◌, ap, refl, sym}
 use native.Mathlib.Omega.{arith}
 use Rattle.names.specs.Lists.{In, first, keep}
-use Rattle.names.proofs.Lists.{append_right, first-none, in-append, in-keep, keep-in, none_first, some_first}
-use Rattle.names.proofs.ListOrder.{Rising, first-lowest, rising-in}
-use Rattle.names.proofs.Tests.{and_left, apart, both, by_cases, by-option, not-both, not_none, some-none, the-some, three}
+use Rattle.names.proofs.Lists.{first-none, in-keep, keep-in, some_first}
+use Rattle.names.proofs.ListOrder.{Rising, rising-in}
+use Rattle.names.proofs.Tests.{and_left, apart, both, by_cases, not-both, not_none, some-none, the-some, three}
 use Rattle.recipe.specs.Definitions.{definitions, holder, records_of, submodels}
 use Rattle.recipe.specs.Records.{Recipe, is_model, is_readable, is_submodel, kind, next, places, places_from, record_length, stop, stop_from}
 use Rattle.recipe.proofs.Definitions.{holder_in, holder-is, in-submodels}
@@ -21,7 +21,7 @@ use Rattle.recipe.proofs.Going.{Going, Here, going_on, here}
 use Rattle.recipe.proofs.Reading.{next_more, place-low, readable, readable-fits}
 use Rattle.recipe.proofs.Spans.{definition-place, holder-above, holder-below, in-definitions}
 use Rattle.shadow.proofs.Cells.{next-apart, step-next}
-use Rattle.shadow.specs.Submodels.{Walkable, submodel_after}
+use Rattle.shadow.specs.Submodels.{Walkable}
 use Rattle.shadow.proofs.Counting.{submodels-rise}
 
 -- the first of a rising list that is behind p, where a is the least of those
@@ -32,16 +32,6 @@ first-behind p l a (x ∷ xs) r (inr i) h k =
     let m = rising-in (suc x) xs a r.1 i in
     rw (le-ltb p x (three p x (λ u. absurd (omega (arith, k x (inl refl) u))) (λ u. omega arith) (λ u. omega arith)), first)
     (first-behind p (suc x) a xs r.1 i h (λ y j. k y (inr j)))
-
--- of a rising list, those before m and those behind it
-before : (l : ℕ) (xs : List ℕ) (m : ℕ) (ms : List ℕ) (x : ℕ) → Rising l (xs ++ m ∷ ms) → In x xs → x < m
-before l [] m ms x r i = absurd i
-before l (y ∷ ys) m ms x r (inl q) = omega (arith, rising-in (suc y) (ys ++ m ∷ ms) m r.1 (append_right ys (m ∷ ms) m (inl refl)))
-before l (y ∷ ys) m ms x r (inr i) = before (suc y) ys m ms x r.1 i
-
-behind : (l : ℕ) (xs : List ℕ) (m : ℕ) (ms : List ℕ) (x : ℕ) → Rising l (xs ++ m ∷ ms) → In x ms → m < x
-behind l [] m ms x r i = rising-in (suc m) ms x r.1 i
-behind l (y ∷ ys) m ms x r i = behind (suc y) ys m ms x r.1 i
 
 -- those behind p: all where each is, none where there is no first, and else the first and those behind it
 keep-all : (t : ℕ → Bool) (xs : List ℕ) → ((x : ℕ) → In x xs → t x ≡ true) → keep t xs ≡ xs
@@ -75,23 +65,6 @@ module _ (s : Recipe) where
       keep-in (is_submodel s) (records_of s d) q
       (keep-in (λ p. not (is_model s p) && eqb (holder s p) d) (places s) q i (both (ap not m) (eq-eqb (holder s q) d h))) k
 
-  pub after-some : (d p q : ℕ) → In q (submodels s d) → p < q → ((x : ℕ) → In x (submodels s d) → p < x → q ≤ x) → submodel_after s d p ≡ q
-  unfolding submodel_after
-  after-some d p q i l h = ap (λ (o : Option ℕ). unwrap_or o (length s.bytes)) (first-behind p 0 q (submodels s d) (submodels-rise s d) i l h)
-
-  pub after_none : (d p : ℕ) → ((x : ℕ) → In x (submodels s d) → p < x → ⊥) → submodel_after s d p ≡ length s.bytes
-  unfolding submodel_after
-  after_none d p h =
-      ap (λ (o : Option ℕ). unwrap_or o (length s.bytes))
-      (first-none (ltb p) (submodels s d) (λ x i. le-ltb p x (three p x (λ u. absurd (h x i u)) (λ u. omega arith) (λ u. omega arith))))
-
-  pub after-further : (d p : ℕ) → p < length s.bytes → p < submodel_after s d p
-  unfolding submodel_after
-  after-further d p l =
-      by-option (first (ltb p) (submodels s d))
-      (λ e. rw e l)
-      (λ a e. rw e (ltb-true p a (some_first (ltb p) (submodels s d) a e).1))
-
   -- a submodel of d stands behind d
   pub submodel-behind : (d m : ℕ) → In d (definitions s) → In m (submodels s d) → d < m
   unfolding records_of
@@ -100,7 +73,7 @@ module _ (s : Recipe) where
       let plain = not-true (is_model s m) (and_left (not (is_model s m)) _ (in-keep (λ p. not (is_model s p) && eqb (holder s p) d) (places s) m h.inside).1) in
       apart (omega (arith, holder-below s m, h.held)) (λ q. not-both (definition-place s d j).1 (rw q plain))
 
-  pub holder-own : (d : ℕ) → In d (definitions s) → holder s d ≡ d
+  holder-own : (d : ℕ) → In d (definitions s) → holder s d ≡ d
   holder-own d i = omega (arith, holder-below s d, holder-above s d d i (omega arith))
 
   -- ---- those left behind a record: of a definition all, and else the first and those left behind it
@@ -115,34 +88,6 @@ module _ (s : Recipe) where
   left-some p q e =
       let h = in-submodels s (holder s p) q (some_first (ltb p) (submodels s (holder s p)) q (sym e)).0 in
       (rw h.held (keep-behind 0 p q (submodels s (holder s p)) (submodels-rise s (holder s p)) (sym e)), h.placed)
-
-  -- the first of the submodels that are left, or the recipe's length
-  abbrev pub head_of : List ℕ → ℕ
-  head_of [] = length s.bytes
-  head_of (m ∷ ms) = m
-
-  -- behind p, which stands behind those before, is the first of those left
-  after-left : (d p : ℕ) (xs ms : List ℕ) → submodels s d ≡ xs ++ ms → ((x : ℕ) → In x xs → x ≤ p) → ((x : ℕ) → In x ms → p < x) → submodel_after s d p ≡ head_of ms
-  after-left d p xs [] e a b =
-      after_none d p
-      (λ x i l. ⊎_elim (λ (j : In x xs). omega (arith, a x j)) (λ (j : ⊥). j) (in-append xs [] x (rw e at i)))
-  after-left d p xs (m ∷ ms) e a b =
-      let R : Rising 0 (xs ++ m ∷ ms) = rw e at (submodels-rise s d) in
-      after-some d p m (rw e (append_right xs (m ∷ ms) m (inl refl))) (b m (inl refl))
-      (λ x i l. ⊎_elim
-      (λ (j : In x xs). absurd (omega (arith, a x j)))
-      (λ (j : In x (m ∷ ms)). ⊎_elim (λ (q : x ≡ m). omega arith) (λ (k : In x ms). omega (arith, behind 0 xs m ms x R k)) j)
-      (in-append xs (m ∷ ms) x (rw e at i)))
-
-  pub after-start : (d : ℕ) → In d (definitions s) → submodel_after s d d ≡ head_of (submodels s d)
-  after-start d i = after-left d d [] (submodels s d) refl (λ x j. absurd j) (λ x j. submodel-behind d x i j)
-
-  pub after-split : (d p : ℕ) (xs ms : List ℕ) → submodels s d ≡ xs ++ p ∷ ms → submodel_after s d p ≡ head_of ms
-  after-split d p xs ms e =
-      let R : Rising 0 (xs ++ p ∷ ms) = rw e at (submodels-rise s d) in
-      after-left d p (xs ++ p ∷ []) ms (e ∙ sym (append_assoc xs (p ∷ []) ms))
-      (λ x i. ⊎_elim (λ (j : In x xs). omega (arith, before 0 xs p ms x R j)) (λ (j : In x (p ∷ [])). ⊎_elim (λ (q : x ≡ p). omega arith) (λ (z : ⊥). absurd z) j) (in-append xs (p ∷ []) x i))
-      (λ x i. behind 0 xs p ms x R i)
 
   -- ---- the search
   -- where a loop goes on behind a record

@@ -1,14 +1,10 @@
--- The submodels of a definition, one behind another: the first behind a record, and an iteration over those left.
+-- The submodels of a definition, one behind another: what an iteration over them requires, and which are left.
 -- Assumes nothing.
-use Rattle.std.specs.Prelude.{ℕ, ◌≤◌, ◌≡◌, List, ltb, length, unwrap_or}
-use Rattle.names.specs.Lists.{In, first, keep}
+use Rattle.std.specs.Prelude.{ℕ, ◌≤◌, ◌≡◌, List, ltb, length}
+use Rattle.names.specs.Lists.{In, keep}
 use Rattle.recipe.specs.Definitions.{holder, submodels}
-use Rattle.recipe.specs.Records.{Recipe, places, recipe_at, stop}
+use Rattle.recipe.specs.Records.{Recipe, places, recipe, stop}
 use Rattle.shadow.specs.declared.SubmodelsOf.{SubmodelsOf}
-
--- the first submodel of d behind p, or the recipe's length where there is none
-unfoldable pub submodel_after : Recipe → ℕ → ℕ → ℕ
-submodel_after s d p = unwrap_or (first (ltb p) (submodels s d)) (length s.bytes)
 
 -- a recipe that rows 1 and 2 do not refuse
 pub record Walkable (s : Recipe) : Type 0 where
@@ -16,14 +12,10 @@ pub record Walkable (s : Recipe) : Type 0 where
   pub short : length s.bytes ≤ 16384
   pub whole : stop s ≡ length s.bytes
 
--- the recipe of an iteration
-abbrev pub recipe_of : SubmodelsOf → Recipe
-recipe_of a = recipe_at a.width a.bytes.now
-
 -- it stands at a record
 abbrev pub Standing : SubmodelsOf → Type 0
-Standing a = Walkable (recipe_of a) × In a.at (places (recipe_of a))
+Standing a = Walkable (recipe a.source.now) × In a.at (places (recipe a.source.now))
 
 -- those left are the submodels of that record's definition that stand behind it
 abbrev pub submodels_left : SubmodelsOf → List ℕ
-submodels_left a = keep (ltb a.at) (submodels (recipe_of a) (holder (recipe_of a) a.at))
+submodels_left a = keep (ltb a.at) (submodels (recipe a.source.now) (holder (recipe a.source.now) a.at))

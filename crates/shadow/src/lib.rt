@@ -1,17 +1,17 @@
 // The shadow of a recipe: one lent table for all that is known of its records. Cell k of the record at p is t[p + k]; `specs/Columns.antt` has what each cell means.
-// For the floors above: the cells' numbers, cell and set_cell; clear_cells; number_records, which fills the cells 0 to 2; next_submodel, and SubmodelsOf, the submodels of a definition one after the other.
+// For the floors above: the cells' numbers, cell, link and set_cell; clear_cells; number_records, which fills the cells 0 to 2; SubmodelsOf, a definition's submodels one after the other.
 #![tactic(auto)]
 
-ghost use Rattle.std.specs.Prelude.{◌≡◌, [], ◌∷◌, ◌+◌, ◌<◌, length, get_or, ltb, set};
+ghost use Rattle.std.specs.Prelude.{◌≡◌, [], ◌∷◌, ◌+◌, ◌<◌, length, get_or, ltb, set, IfSome};
 ghost use Rattle.std.specs.Iterator.{YieldsFirst, item_count};
 ghost use Rattle.names.specs.Lists.{In, first};
 ghost use Rattle.recipe.specs.Definitions.{definitions, holder, submodels};
-ghost use Rattle.recipe.specs.Records.{places, recipe_at};
-ghost use Rattle.shadow.specs.Shadow.{Cell, Kept, Shadowed};
+ghost use Rattle.recipe.specs.Records.{places, recipe};
+ghost use Rattle.shadow.specs.Shadow.{Cell, Kept, Shadowed, linked};
 ghost use Rattle.shadow.specs.Columns.{Numbered};
-ghost use Rattle.shadow.specs.Submodels.{Standing, Walkable, submodel_after, submodels_left};
+ghost use Rattle.shadow.specs.Submodels.{Standing, Walkable, submodels_left};
 
-use recipe::Records;
+use recipe::{Kind, Records, Source};
 
 pub const DEFINITION_OF: usize = 0;
 
@@ -55,6 +55,18 @@ pub fn cell(t: &[u16], p: usize, k: usize) -> usize
     recipe::wide(t[p + k])
 }
 
+// What cell k of the row at p names: a record, by its place, or nothing, by 0.
+pub fn link(t: &[u16], p: usize, k: usize) -> Option<usize>
+    requires { p + k < length t.now }
+    ensures { (result ≡ linked (get_or t.now (p + k) 0)) × IfSome result (λ q. q < 65536) }
+{
+    let q = cell(t, p, k);
+    if q == 0 {
+        return None;
+    }
+    Some(q)
+}
+
 // Writes x into cell k of the row at p.
 pub fn set_cell(t: &mut [u16], p: usize, k: usize, x: usize)
     requires { (p + k < length t.old) × (x < 65536) }
@@ -64,28 +76,28 @@ pub fn set_cell(t: &mut [u16], p: usize, k: usize, x: usize)
 }
 
 // Clears cell k of each record.
-pub fn clear_cells(s: &[u8], w: usize, t: &mut [u16], k: usize)
-    requires { Shadowed (recipe_at w s.now) t.old × (k < 13) }
-    ensures { Cell (places (recipe_at w s.now)) k (λ p. 0) t.new × Kept (recipe_at w s.now) (k ∷ []) t.old t.new }
+pub fn clear_cells(s: &Source, t: &mut [u16], k: usize)
+    requires { Shadowed (recipe s.now) t.old × (k < 13) }
+    ensures { Cell (places (recipe s.now)) k (λ p. 0) t.new × Kept (recipe s.now) (k ∷ []) t.old t.new }
 {
-    for p in Records::of(s, w) {
+    for p in Records::of(s) {
         set_cell(t, p, k, 0);
     }
 }
 
 // Fills each record's definition, each element's number in its definition, and how many elements each definition has.
-pub fn number_records(s: &[u8], w: usize, t: &mut [u16])
-    requires { Shadowed (recipe_at w s.now) t.old }
-    ensures { Numbered (recipe_at w s.now) t.new × (length t.new ≡ length t.old) }
+pub fn number_records(s: &Source, t: &mut [u16])
+    requires { Shadowed (recipe s.now) t.old }
+    ensures { Numbered (recipe s.now) t.new × (length t.new ≡ length t.old) }
 {
     let mut d = 0;
-    for p in Records::of(s, w) {
-        let k = s[p];
-        if k == 1 {
+    for p in Records::of(s) {
+        let k = s.bytes[p];
+        if k == Kind::Model as u8 {
             d = p;
             set_cell(t, p, DEFINITION_OF, p);
             set_cell(t, p, ELEMENT_COUNT, 0);
-        } else if k == 2 {
+        } else if k == Kind::Element as u8 {
             let c = cell(t, d, ELEMENT_COUNT);
             set_cell(t, p, DEFINITION_OF, d);
             set_cell(t, p, ELEMENT_ORDER, c);
@@ -97,21 +109,20 @@ pub fn number_records(s: &[u8], w: usize, t: &mut [u16])
 }
 
 // The first submodel behind the record at p, of the same definition.
-fn submodel_behind(s: &[u8], w: usize, p: usize) -> Option<usize>
-    requires { Walkable (recipe_at w s.now) × In p (places (recipe_at w s.now)) }
-    ensures { result ≡ first (ltb p) (submodels (recipe_at w s.now) (holder (recipe_at w s.now) p)) }
+fn submodel_behind(s: &Source, p: usize) -> Option<usize>
+    requires { Walkable (recipe s.now) × In p (places (recipe s.now)) }
+    ensures { result ≡ first (ltb p) (submodels (recipe s.now) (holder (recipe s.now) p)) }
 {
     let behind = Records {
-        bytes: s,
-        width: w,
-        at: p + recipe::record_length(s[p], w),
+        source: s,
+        at: p + recipe::record_length(s.bytes[p], s.width),
     };
     for q in behind {
-        let k = s[q];
-        if k == 1 {
+        let k = s.bytes[q];
+        if k == Kind::Model as u8 {
             return None;
         }
-        if k == 4 {
+        if k == Kind::Submodel as u8 {
             return Some(q);
         }
     }
@@ -121,8 +132,7 @@ fn submodel_behind(s: &[u8], w: usize, p: usize) -> Option<usize>
 // The submodels of a definition, in order: those behind the record at `at`, which is the definition or one of its records.
 #[derive(Clone, Copy)]
 pub struct SubmodelsOf<'a> {
-    pub bytes: &'a [u8],
-    pub width: usize,
+    pub source: &'a Source<'a>,
     pub at: usize,
 }
 
@@ -136,29 +146,17 @@ impl<'a> Iterator for SubmodelsOf<'a> {
     ghost remaining = { item_count submodels_left };
 
     fn next(&mut self) -> Option<usize> {
-        self.at = submodel_behind(self.bytes, self.width, self.at)?;
+        self.at = submodel_behind(self.source, self.at)?;
         Some(self.at)
     }
 }
 
 impl<'a> SubmodelsOf<'a> {
     // Those of definition d.
-    pub fn definition(s: &'a [u8], w: usize, d: usize) -> SubmodelsOf<'a>
-        requires { Walkable (recipe_at w s.now) × In d (definitions (recipe_at w s.now)) }
-        ensures { Standing result × (submodels_left result ≡ submodels (recipe_at w s.now) d) }
+    pub fn definition(s: &'a Source<'a>, d: usize) -> SubmodelsOf<'a>
+        requires { Walkable (recipe s.now) × In d (definitions (recipe s.now)) }
+        ensures { Standing result × (submodels_left result ≡ submodels (recipe s.now) d) }
     {
-        SubmodelsOf {
-            bytes: s,
-            width: w,
-            at: d,
-        }
+        SubmodelsOf { source: s, at: d }
     }
-}
-
-// The next submodel behind the record at p, of the same definition; the recipe's length where there is none.
-pub fn next_submodel(s: &[u8], w: usize, t: &[u16], p: usize) -> usize
-    requires { Numbered (recipe_at w s.now) t.now × In p (places (recipe_at w s.now)) }
-    ensures { result ≡ submodel_after (recipe_at w s.now) (holder (recipe_at w s.now) p) p }
-{
-    submodel_behind(s, w, p).unwrap_or(s.len())
 }

@@ -7,13 +7,13 @@ use lib.ListN.{get_or, length}
 use mathlib.Core.Bool.{Bool, false, not, true}
 use mathlib.Core.List.{List}
 use mathlib.Core.Logic.{⊎_elim}
-use mathlib.Core.Path.{◌∙◌, ◌≡◌, sym}
+use mathlib.Core.Path.{◌∙◌, ◌≡◌, refl, sym}
 use Rattle.names.proofs.Tests.{or_cases, or_left}
 use Rattle.recipe.specs.Definitions.{holder, owner_of}
 use Rattle.recipe.specs.Records.{Recipe, byte, class, is_element, is_mark, is_owned, is_port, is_replaced_by, is_replacement, kind, owned_kind, record_length}
 use Rattle.recipe.proofs.Bodies.{owned-kind}
 use Rattle.recipe.proofs.Definitions.{Held, in-elements}
-use Rattle.recipe.proofs.Going.{Going, Here, class_low, going_on, here, on_fits, on-more}
+use Rattle.recipe.proofs.Going.{Going, Here, class_low, going_on, here}
 use Rattle.recipe.proofs.Rows.{owner-element, replaced-by-mark, replacement-mark}
 use Rattle.shadow.specs.Shadow.{Shadowed}
 use Rattle.shadow.proofs.Cells.{row_room}
@@ -33,13 +33,10 @@ module _ {s : Recipe} {t : List ℕ} (A : Aimed s t) {p : ℕ} (g : Going s (is_
   pub row_here : p + 13 ≤ length t
   row_here = row_room c₀ p this.place
 
-  pub fits-here : {n : ℕ} → n ≡ record_length s.width (get_or s.bytes p 0) → (1 ≤ n) × (p + n ≤ length s.bytes)
-  fits-here e = (on-more _ _ e, on_fits this e)
-
   -- a record without an owner
-  pub not-owned : {b : Bool} {n : ℕ} → b ≡ owned_kind (get_or s.bytes p 0) → b ≡ false → n ≡ record_length s.width (get_or s.bytes p 0) → Going s (is_class_fault s) (p + n)
+  pub not-owned : {b : Bool} → b ≡ owned_kind (get_or s.bytes p 0) → b ≡ false → Going s (is_class_fault s) (p + record_length s.width (get_or s.bytes p 0))
   unfolding is_class_fault kind
-  not-owned b k e = going_on this (rw (owned-kind s p ∙ sym b ∙ k)) e
+  not-owned b k = going_on this (rw (owned-kind s p ∙ sym b ∙ k)) refl
 
   -- one with an owner
   module _ {b : Bool} (q : b ≡ owned_kind (get_or s.bytes p 0)) (is : b ≡ true) where

@@ -1,4 +1,4 @@
--- Targets that are kept: what is kept answers, an answer that is kept leaves the cells right, and the pass over all ports and marks.
+-- Targets that are kept: an answer that is kept leaves the cells right, and the pass over all ports and marks.
 -- Assumes nothing.
 use Rattle.std.specs.Prelude.{None, Some, is_some}
 use Prim.Native.Nat.{◌+◌, ◌<◌, ◌≤◌, ℕ}
@@ -15,7 +15,7 @@ use Rattle.recipe.specs.Definitions.{holder}
 use Rattle.recipe.specs.Records.{Recipe, is_pointer, kind, places, pointer_kind, record_length}
 use Rattle.recipe.proofs.Bodies.{pointer-kind}
 use Rattle.recipe.proofs.Definitions.{in-elements, in-submodels}
-use Rattle.recipe.proofs.Going.{Going, Here, going_end, going-hit, going_on, going_start, here, on_fits, on-more}
+use Rattle.recipe.proofs.Going.{Going, Here, going_end, going-hit, going_on, going_start, here}
 use Rattle.recipe.proofs.Reading.{place-low}
 use Rattle.shadow.specs.Columns.{Measured}
 use Rattle.shadow.specs.Shadow.{Cell, Kept, Shadowed}
@@ -65,17 +65,6 @@ module _ {s : Recipe} {t : List ℕ} {r : ℕ} (R : ResolveRequires s t r) where
   pub offset-asks : (r + 4 < length t) × (get_or t (r + 4) 0 + 7 < length t)
   offset-asks = (omega (arith, row_of), offset-room M r R.place R.sort)
 
-  -- what is kept answers
-  pub kept-answers : {x : ℕ} → x ≡ get_or t (r + 10) 0 → (x ≡ 0 → ⊥) → Resolved s t t r true
-  kept-answers q z =
-      let n : get_or t (r + 10) 0 ≡ 0 → ⊥ = λ y. z (q ∙ y) in record {
-        found = sym (ap is_some (R.memo r R.place R.sort n).there);
-        own = λ o. n;
-        memo = R.memo;
-        stays = λ p i y. y;
-        kept = kept-all s _ t;
-      }
-
   -- no record is named
   pub none_named : {x : ℕ} → x ≡ get_or t (r + 5) 0 → x ≡ 0 → Resolved s t t r false
   none_named q z = record {
@@ -87,22 +76,22 @@ module _ {s : Recipe} {t : List ℕ} {r : ℕ} (R : ResolveRequires s t r) where
   }
 
   -- an answer is kept
-  new-answer : {t₁ t₂ : List ℕ} {pl nu : ℕ} {ok : Bool} → Kept s (9 ∷ 10 ∷ []) t t₁ → Memo s t₁ → ((q : ℕ) → In q (places s) → (get_or t (q + 10) 0 ≡ 0 → ⊥) → get_or t₁ (q + 10) 0 ≡ 0 → ⊥)
-      → Keeps s t r pl nu → (ok ≡ true) × (t₂ ≡ set (set t₁ (r + 9) nu) (r + 10) pl) → Resolved s t t₂ r ok
+  new-answer : {t₁ t₂ : List ℕ} {pl nu : ℕ} → Kept s (9 ∷ 10 ∷ []) t t₁ → Memo s t₁ → ((q : ℕ) → In q (places s) → (get_or t (q + 10) 0 ≡ 0 → ⊥) → get_or t₁ (q + 10) 0 ≡ 0 → ⊥)
+      → Keeps s t r pl nu → t₂ ≡ set (set t₁ (r + 9) nu) (r + 10) pl → Resolved s t t₂ r true
   new-answer {t₁} {t₂} {pl} {nu} o m st K k =
       let u = set t₁ (r + 9) nu in
       let one : Kept s (9 ∷ 10 ∷ []) t₁ u = kept_set r 9 nu c₀ (kept-all s _ t₁) R.place (omega arith) refl in
       let two : Kept s (9 ∷ 10 ∷ []) t₁ (set u (r + 10) pl) = kept_set r 10 pl c₀ one R.place (omega arith) refl in
-      let on : Kept s (9 ∷ 10 ∷ []) t₁ t₂ = rw k.1 two in
-      let a : get_or t₂ (r + 10) 0 ≡ pl = ap (λ (l : List ℕ). get_or l (r + 10) 0) k.1 ∙ cell_set c₀ u r 10 pl R.place (omega arith) (one.long ∙ o.long) in
+      let on : Kept s (9 ∷ 10 ∷ []) t₁ t₂ = rw k two in
+      let a : get_or t₂ (r + 10) 0 ≡ pl = ap (λ (l : List ℕ). get_or l (r + 10) 0) k ∙ cell_set c₀ u r 10 pl R.place (omega arith) (one.long ∙ o.long) in
       let b : get_or t₂ (r + 9) 0 ≡ nu =
-      ap (λ (l : List ℕ). get_or l (r + 9) 0) k.1 ∙ cell-kept c₀ u r 10 pl r 9 R.place R.place (omega arith) (omega arith) (λ y z. absurd (omega arith))
+      ap (λ (l : List ℕ). get_or l (r + 9) 0) k ∙ cell-kept c₀ u r 10 pl r 9 R.place R.place (omega arith) (omega arith) (λ y z. absurd (omega arith))
       ∙ cell_set c₀ t₁ r 9 nu R.place (omega arith) o.long in
       let other : (c q : ℕ) → c < 13 → In q (places s) → (q ≡ r → ⊥) → get_or t₂ (q + c) 0 ≡ get_or t₁ (q + c) 0 = λ c q low i n.
-      ap (λ (l : List ℕ). get_or l (q + c) 0) k.1 ∙ cell-kept c₀ u r 10 pl q c R.place i (omega arith) low (λ y z. n (sym y))
+      ap (λ (l : List ℕ). get_or l (q + c) 0) k ∙ cell-kept c₀ u r 10 pl q c R.place i (omega arith) low (λ y z. n (sym y))
       ∙ cell-kept c₀ t₁ r 9 nu q c R.place i (omega arith) low (λ y z. n (sym y)) in
       let z = aim-some K in record {
-        found = k.0 ∙ sym (ap is_some K.there);
+        found = sym (ap is_some K.there);
         own = λ y v. z (sym a ∙ v);
         memo = λ q i w y.
             by_cases (eqb q r)
@@ -119,8 +108,8 @@ module _ {s : Recipe} {t : List ℕ} {r : ℕ} (R : ResolveRequires s t r) where
     named-asks = (named-row M r R.place R.sort q z, place-low s x (named-place M r R.place R.sort q z))
 
     -- an element is named
-    pub element-answers : {t₂ : List ℕ} {f g num : ℕ} {ok : Bool} → OffsetOf t r f → get_or s.bytes x 0 ≡ 2 → g ≡ get_or t (x + 1) 0 → (f + g < 65536 → num ≡ f + g)
-        → (ok ≡ true) × (t₂ ≡ set (set t (r + 9) num) (r + 10) x) → Resolved s t t₂ r ok
+    pub element-answers : {t₂ : List ℕ} {f g num : ℕ} → OffsetOf t r f → get_or s.bytes x 0 ≡ 2 → g ≡ get_or t (x + 1) 0 → (f + g < 65536 → num ≡ f + g)
+        → t₂ ≡ set (set t (r + 9) num) (r + 10) x → Resolved s t t₂ r true
     element-answers o k e a w = new-answer (kept-all s _ t) R.memo (λ p i y. y) (element-keeps M r R.place R.sort q z k o e a) w
 
     -- a port is named
@@ -144,8 +133,8 @@ module _ {s : Recipe} {t : List ℕ} {r : ℕ} (R : ResolveRequires s t r) where
           kept = W.kept;
         }
 
-        pub port-answers : {t₂ : List ℕ} {f pl nu num : ℕ} {yes : Bool} → not ok ≡ false → OffsetOf t r f → pl ≡ get_or t₁ (x + 10) 0 → nu ≡ get_or t₁ (x + 9) 0 → (f + nu < 65536 → num ≡ f + nu)
-            → (yes ≡ true) × (t₂ ≡ set (set t₁ (r + 9) num) (r + 10) pl) → Resolved s t t₂ r yes
+        pub port-answers : {t₂ : List ℕ} {f pl nu num : ℕ} → not ok ≡ false → OffsetOf t r f → pl ≡ get_or t₁ (x + 10) 0 → nu ≡ get_or t₁ (x + 9) 0 → (f + nu < 65536 → num ≡ f + nu)
+            → t₂ ≡ set (set t₁ (r + 9) num) (r + 10) pl → Resolved s t t₂ r true
         port-answers {pl = pl} {nu = nu} h o a b e w =
             let K : Keeps s t₁ x pl nu = rw (a, b) (W.memo x atx port-requires.sort (W.own (not-false ok h))) in
             new-answer W.kept W.memo W.stays (port-keeps M r R.place R.sort q z k o (keeps-over (kept_back W.kept) K) e) w
@@ -203,17 +192,14 @@ module _ {s : Recipe} {t₀ : List ℕ} (M : Measured s t₀) where
       pub this-target : Here s (is_target_fault s) p
       this-target = here s (is_target_fault s) p M.linked.numbered.shadowed.whole g.going l
 
-      pub target_fits : {n : ℕ} → n ≡ record_length s.width (get_or s.bytes p 0) → (1 ≤ n) × (p + n ≤ length s.bytes)
-      target_fits e = (on-more _ _ e, on_fits this-target e)
-
       -- no port or mark
-      pub target-skip : {b : Bool} {n : ℕ} → b ≡ pointer_kind (get_or s.bytes p 0) → b ≡ false → n ≡ record_length s.width (get_or s.bytes p 0) → TargetLoop s t₀ t (p + n)
+      pub target-skip : {b : Bool} → b ≡ pointer_kind (get_or s.bytes p 0) → b ≡ false → TargetLoop s t₀ t (p + record_length s.width (get_or s.bytes p 0))
       unfolding is_target_fault kind
-      target-skip q k e =
+      target-skip q k =
           let y : is_pointer s p ≡ false = pointer-kind s p ∙ sym q ∙ k in record {
-            going = going_on this-target (rw y) e;
+            going = going_on this-target (rw y) refl;
             memo = g.memo;
-            done = λ r i m u. before-next s p r this-target.place i e u (g.done r i m) (λ z. absurd (true≢false (sym m ∙ rw z y)));
+            done = λ r i m u. before-next s p r this-target.place i refl u (g.done r i m) (λ z. absurd (true≢false (sym m ∙ rw z y)));
             kept = g.kept;
           }
 
@@ -238,10 +224,10 @@ module _ {s : Recipe} {t₀ : List ℕ} (M : Measured s t₀) where
           unfolding fault₈
           target_hit h = going-hit this-target (fault-is ∙ h)
 
-          pub target_more : {n : ℕ} → not ok ≡ false → n ≡ record_length s.width (get_or s.bytes p 0) → TargetLoop s t₀ t' (p + n)
-          target_more h e = record {
-            going = going_on this-target (fault-is ∙ h) e;
+          pub target_more : not ok ≡ false → TargetLoop s t₀ t' (p + record_length s.width (get_or s.bytes p 0))
+          target_more h = record {
+            going = going_on this-target (fault-is ∙ h) refl;
             memo = W.memo;
-            done = λ r i m u. before-next s p r this-target.place i e u (λ z. W.stays r i (g.done r i m z)) (λ z. rw z (W.own (not-false ok h)));
+            done = λ r i m u. before-next s p r this-target.place i refl u (λ z. W.stays r i (g.done r i m z)) (λ z. rw z (W.own (not-false ok h)));
             kept = kept_on;
           }

@@ -1,30 +1,54 @@
 // The targets of ports and marks, found through ports; the refusals 8 and 10.
-// For the floors above: first_untargeted, first_misclassed. They take the name width w and the shadow t.
+// For the floors above: first_untargeted, of the recipe s and the shadow t; Tree, what there is where no row up to 8 applies; first_misclassed.
 #![tactic(auto)]
 
 ghost use Rattle.std.specs.Prelude.{◌≡◌, true, [], ◌∷◌, ◌+◌, ◌≤◌, ◌<◌, length, get_or, set};
-ghost use Rattle.recipe.specs.Records.{recipe_at};
+ghost use Rattle.recipe.specs.Records.{recipe};
 ghost use Rattle.shadow.specs.Shadow.{Kept};
 ghost use Rattle.shadow.specs.Columns.{Measured};
 ghost use Rattle.tree.specs.Faults.{fault₈, fault₁₀};
-ghost use Rattle.targets.specs.Targeted.{Aimed};
+ghost use Rattle.tree.specs.Tree.{tree_elements};
+ghost use Rattle.targets.specs.Targeted.{Aimed, Targeted};
 ghost use Rattle.targets.specs.Resolve.{OffsetOf, ResolveRequires, Resolved, TargetNumbers};
 
+use recipe::{Kind, Records, Source};
 use shadow::{cell, set_cell};
+use tree::{InstancesOf, Size};
 
-// One more than the greatest number of a cell.
-const CELL_END: usize = 65536;
+// The greatest number of a cell.
+const MOST_NUMBER: usize = 65535;
 
-// Two numbers of cells, added; 0 where the sum does not fit a cell.
+// The tree of a recipe that rows 1 to 8 let pass: the recipe, its shadow, the rows of its instances, and how many instances and elements there are.
+#[derive(Clone, Copy)]
+pub struct Tree<'a> {
+    pub source: &'a Source<'a>,
+    pub shadow: &'a [u16],
+    pub instances: &'a [u16],
+    pub size: Size,
+    pub ghost targeted: { Targeted (recipe source.now) shadow.now instances.now size.insts },
+    pub ghost counted: { size.elems ≡ length (tree_elements (recipe source.now)) },
+}
+
+impl<'a> Tree<'a> {
+    ghost use Rattle.names.specs.Lists.{In};
+    ghost use Rattle.recipe.specs.Records.{places};
+    ghost use Rattle.targets.specs.Trees.{recipe_of};
+
+    // The instances of the definition that the record at p stands in.
+    pub fn instances_of(&self, p: usize) -> InstancesOf<'a>
+        requires { In p (places (recipe_of self.now)) }
+        ensures { (result.rows.now ≡ self.now.instances.now) × (result.next ≡ get_or self.now.shadow.now (get_or self.now.shadow.now (p + 0) 0 + 8) 0) }
+    {
+        InstancesOf::record(self.shadow, self.instances, p)
+    }
+}
+
+// Two numbers of cells, added, as far as a cell goes.
 fn add_numbers(f: usize, g: usize) -> usize
     requires { (f < 65536) × (g < 65536) }
     ensures { (result < 65536) × (f + g < 65536 → result ≡ f + g) }
 {
-    let v = f + g;
-    if v < CELL_END {
-        return v;
-    }
-    0
+    (f + g).min(MOST_NUMBER)
 }
 
 // The elements of the instance of the port or mark at r that come before the subtree it names; 0 where it names none.
@@ -32,104 +56,91 @@ fn offset_of(t: &[u16], r: usize) -> usize
     requires { (r + 4 < length t.now) × (get_or t.now (r + 4) 0 + 7 < length t.now) }
     ensures { OffsetOf t.now r result }
 {
-    let m = cell(t, r, shadow::SUBMODEL);
-    if m == 0 {
-        return 0;
+    match shadow::link(t, r, shadow::SUBMODEL) {
+        Some(m) => cell(t, m, shadow::ELEMENT_OFFSET),
+        None => 0,
     }
-    cell(t, m, shadow::ELEMENT_OFFSET)
 }
 
-// Keeps the target of the port or mark at r; it has one.
-fn keep_target(t: &mut [u16], r: usize, place: usize, num: usize) -> bool
+// Keeps the target of the port or mark at r.
+fn keep_target(t: &mut [u16], r: usize, place: usize, num: usize)
     requires { (r + 10 < length t.old) × ((place < 65536) × (num < 65536)) }
-    ensures { (result ≡ true) × (t.new ≡ set (set t.old (r + 9) num) (r + 10) place) }
+    ensures { t.new ≡ set (set t.old (r + 9) num) (r + 10) place }
 {
     set_cell(t, r, shadow::TARGET_NUMBER, num);
     set_cell(t, r, shadow::TARGET, place);
-    true
 }
 
 // Whether the port or mark at q has a target, which is kept in its cells: as they have it, or by what it names.
 #[cycle(resolve_port_resolve_reference)]
-fn resolve_port(s: &[u8], w: usize, t: &mut [u16], q: usize) -> bool
-    requires { ResolveRequires (recipe_at w s.now) t.old q }
-    ensures { Resolved (recipe_at w s.now) t.old t.new q result }
+fn resolve_port(s: &Source, t: &mut [u16], q: usize) -> bool
+    requires { ResolveRequires (recipe s.now) t.old q }
+    ensures { Resolved (recipe s.now) t.old t.new q result }
 {
-    if cell(t, q, shadow::TARGET) != 0 {
+    if shadow::link(t, q, shadow::TARGET).is_some() {
         return true;
     }
-    resolve_reference(s, w, t, q)
+    resolve_reference(s, t, q)
 }
 
 // Whether the port or mark at r has a target, by the record that it names: an element is the target; of a port, its target is.
 #[cycle(resolve_port_resolve_reference)]
-fn resolve_reference(s: &[u8], w: usize, t: &mut [u16], r: usize) -> bool
-    requires { ResolveRequires (recipe_at w s.now) t.old r }
-    ensures { Resolved (recipe_at w s.now) t.old t.new r result }
+fn resolve_reference(s: &Source, t: &mut [u16], r: usize) -> bool
+    requires { ResolveRequires (recipe s.now) t.old r }
+    ensures { Resolved (recipe s.now) t.old t.new r result }
 {
-    let x = cell(t, r, shadow::NAMED_RECORD);
-    if x == 0 {
+    let Some(x) = shadow::link(t, r, shadow::NAMED_RECORD) else {
         return false;
-    }
+    };
     let f = offset_of(t, r);
-    if s[x] == 2 {
+    if s.bytes[x] == Kind::Element as u8 {
         let g = cell(t, x, shadow::ELEMENT_ORDER);
-        return keep_target(t, r, x, add_numbers(f, g));
+        keep_target(t, r, x, add_numbers(f, g));
+        return true;
     }
-    if !resolve_port(s, w, t, x) {
+    if !resolve_port(s, t, x) {
         return false;
     }
     let place = cell(t, x, shadow::TARGET);
     let num = cell(t, x, shadow::TARGET_NUMBER);
-    keep_target(t, r, place, add_numbers(f, num))
+    keep_target(t, r, place, add_numbers(f, num));
+    true
 }
 
 // Row 8: the first mark or port without a target; the places and numbers of the others' targets. Each port is resolved once.
-pub fn first_untargeted(s: &[u8], w: usize, t: &mut [u16]) -> Option<usize>
-    requires { Measured (recipe_at w s.now) t.old }
-    ensures { (result ≡ fault₈ (recipe_at w s.now)) × ((result ≡ None → Aimed (recipe_at w s.now) t.new × TargetNumbers (recipe_at w s.now) t.new) × Kept (recipe_at w s.now) (9 ∷ 10 ∷ []) t.old t.new) }
+pub fn first_untargeted(s: &Source, t: &mut [u16]) -> Option<usize>
+    requires { Measured (recipe s.now) t.old }
+    ensures { (result ≡ fault₈ (recipe s.now)) × ((result ≡ None → Aimed (recipe s.now) t.new × TargetNumbers (recipe s.now) t.new) × Kept (recipe s.now) (9 ∷ 10 ∷ []) t.old t.new) }
 {
-    shadow::clear_cells(s, w, t, shadow::TARGET);
-    let mut p = 0;
-    while p < s.len() {
-        let k = s[p];
-        if recipe::is_pointer(k) {
-            if !resolve_port(s, w, t, p) {
-                return Some(p);
-            }
-            p += recipe::record_length(k, w);
-        } else {
-            p += recipe::record_length(k, w);
+    shadow::clear_cells(s, t, shadow::TARGET);
+    for p in Records::of(s) {
+        if recipe::is_pointer(s.bytes[p]) && !resolve_port(s, t, p) {
+            return Some(p);
         }
     }
     None
 }
 
 // The class of the element at e.
-fn class_of(s: &[u8], w: usize, e: usize) -> u8
-    requires { (e + 1 + w < length s.now) × (length s.now ≤ 16384) }
-    ensures { result ≡ get_or s.now (e + 1 + w) 0 }
+fn class_of(s: &Source, e: usize) -> u8
+    requires { (e + 1 + s.now.width < length s.now.bytes.now) × (length s.now.bytes.now ≤ 16384) }
+    ensures { result ≡ get_or s.now.bytes.now (e + 1 + s.now.width) 0 }
 {
-    s[e + 1 + w]
+    s.bytes[e + 1 + s.width]
 }
 
 // Row 10: the first mark whose owner's and target's class differ.
-pub fn first_misclassed(s: &[u8], w: usize, t: &[u16]) -> Option<usize>
-    requires { Aimed (recipe_at w s.now) t.now }
-    ensures { result ≡ fault₁₀ (recipe_at w s.now) }
+pub fn first_misclassed(tree: &Tree) -> Option<usize>
+    ensures { result ≡ fault₁₀ (recipe tree.now.source.now) }
 {
-    let mut p = 0;
-    while p < s.len() {
-        let k = s[p];
-        if recipe::is_owned(k) {
-            let a = class_of(s, w, cell(t, p, shadow::OWNER));
-            let b = class_of(s, w, cell(t, p, shadow::TARGET));
+    let s = tree.source;
+    for p in Records::of(s) {
+        if recipe::is_owned(s.bytes[p]) {
+            let a = class_of(s, cell(tree.shadow, p, shadow::OWNER));
+            let b = class_of(s, cell(tree.shadow, p, shadow::TARGET));
             if a != b {
                 return Some(p);
             }
-            p += recipe::record_length(k, w);
-        } else {
-            p += recipe::record_length(k, w);
         }
     }
     None

@@ -31,11 +31,9 @@ use Rattle.tree.specs.declared.Size.{Size}
 use Rattle.tree.specs.Faults.{most_elements, most_instances}
 use Rattle.tree.specs.Numbers.{ahead, total, weight, weight_in}
 use Rattle.tree.specs.Tree.{most_depth}
-use Rattle.shadow.specs.Submodels.{submodel_after}
 use Rattle.tree.specs.Walk.{Covered, Grown, OffsetRight, WalkKeeps, WalkRequires, deep_in, insts_in, over, rows_in, rows_over}
 use Rattle.shadow.proofs.Counting.{submodels-rise}
 use Rattle.tree.proofs.Numbering.{Shallow, total-cong, weight_is}
-use Rattle.shadow.proofs.Submodels.{after-further, after-split, after-start, head_of, holder-own}
 
 -- ---- lists
 pub total-append : (f : ℕ → ℕ) (xs ys : List ℕ) → total f (xs ++ ys) ≡ total f xs + total f ys
@@ -175,12 +173,10 @@ module _ (s : Recipe) where
   covered-keeps zero d off off' h c = tt
   covered-keeps (suc n) d off off' h c = λ m i. (h m (c m i).0, covered-keeps n (model_of s m) off off' h (c m i).1)
 
-  -- the loop over the submodels of the instance i of d: those of pre are walked, those of ms are left, and p is the first of these
-  pub record WalkLoop (n d i e : ℕ) (t₀ inst₀ t inst : List ℕ) (j x p : ℕ) : Type 0 where
+  -- the loop over the submodels of the instance i of d: those of pre are walked, and those of ms are left
+  pub record WalkLoop (n d i e : ℕ) (t₀ inst₀ t inst : List ℕ) (j x : ℕ) (ms : List ℕ) : Type 0 where
     pub pre : List ℕ
-    pub ms : List ℕ
     pub split : submodels s d ≡ pre ++ ms
-    pub at : p ≡ head_of s ms
     pub bottom : n ≡ 0 → pre ≡ []
     pub insts : j ≡ i + (1 + total (insts_at (n - 1)) pre)
     pub elems : x ≡ e + (length (elements s d) + total (weight_at (n - 1)) pre)
@@ -194,7 +190,7 @@ module _ (s : Recipe) where
     pub left : WalkKeeps s t₀ inst₀ t inst
 
   -- no submodel is left
-  loop-done : (n d i e : ℕ) {t₀ inst₀ t inst : List ℕ} {j x p : ℕ} (g : WalkLoop n d i e t₀ inst₀ t inst j x p) → g.ms ≡ []
+  loop-done : (n d i e : ℕ) {t₀ inst₀ t inst : List ℕ} {j x : ℕ} {ms : List ℕ} (g : WalkLoop n d i e t₀ inst₀ t inst j x ms) → ms ≡ []
       → (true ≡ not (over n s d i e)) × Grown s n d i e t₀ inst₀ t inst j x
   unfolding insts_in weight_in rows_in Covered deep_in
   loop-done zero d i e g z =
@@ -249,7 +245,7 @@ module _ (s : Recipe) where
   depth-step : (n : ℕ) → (n ≡ 0 → ⊥) → n ≤ most_depth → most_depth - (n - 1) ≡ suc (most_depth - n)
   depth-step n z l = omega arith
 
-  module _ (n d i e : ℕ) {t₀ inst₀ t inst : List ℕ} {j x p : ℕ} (g : WalkLoop n d i e t₀ inst₀ t inst j x p) (ms' : List ℕ) (here : g.ms ≡ p ∷ ms')
+  module _ (n d i e : ℕ) {t₀ inst₀ t inst : List ℕ} {j x : ℕ} {ms : List ℕ} (g : WalkLoop n d i e t₀ inst₀ t inst j x ms) {p : ℕ} {ms' : List ℕ} (here : ms ≡ p ∷ ms')
       (low : n ≤ most_depth) where
     subs-are : submodels s d ≡ g.pre ++ p ∷ ms'
     subs-are = g.split ∙ ap (λ (l : List ℕ). g.pre ++ l) here
@@ -277,11 +273,11 @@ module _ (s : Recipe) where
         (over-cases (n - 1) (model_of s p) j x o)
 
     -- its walk goes through
-    loop-more : {t₁ inst₁ t' inst' : List ℕ} {j' x' p' : ℕ} → (n ≡ 0 → ⊥) → holder s p ≡ d → p + 7 < length t → t₁ ≡ set t (p + 7) (x - e)
+    loop-more : {t₁ inst₁ t' inst' : List ℕ} {j' x' : ℕ} → (n ≡ 0 → ⊥) → holder s p ≡ d → p + 7 < length t → t₁ ≡ set t (p + 7) (x - e)
         → inst₁ ≡ sets inst (6 * j) (model_of s p ∷ (most_depth - (n - 1)) ∷ x ∷ p ∷ i ∷ 0 ∷ []) → over (n - 1) s (model_of s p) j x ≡ false
-        → Grown s (n - 1) (model_of s p) j x t₁ inst₁ t' inst' j' x' → WalkKeeps s t₀ inst₀ t' inst' → p' ≡ submodel_after s d p
-        → WalkLoop n d i e t₀ inst₀ t' inst' j' x' p'
-    loop-more {t₁} {inst₁} {t'} {inst'} {j'} {x'} {p'} up held l q b o w left r =
+        → Grown s (n - 1) (model_of s p) j x t₁ inst₁ t' inst' j' x' → WalkKeeps s t₀ inst₀ t' inst'
+        → WalkLoop n d i e t₀ inst₀ t' inst' j' x' ms'
+    loop-more {t₁} {inst₁} {t'} {inst'} {j'} {x'} up held l q b o w left =
         let F = over-not (n - 1) (model_of s p) j x o in
         let k = n - 1 in
         let Vv : x - e ≡ ahead s (holder s p) p = ahead-is ∙ ap (λ (z : ℕ). ahead s z p) (sym held) in
@@ -289,9 +285,7 @@ module _ (s : Recipe) where
         let A = total-append (insts_at k) g.pre (p ∷ []) in
         let B = total-append (weight_at k) g.pre (p ∷ []) in record {
           pre = g.pre ++ p ∷ [];
-          ms = ms';
           split = subs-are ∙ sym (append_assoc g.pre (p ∷ []) ms');
-          at = r ∙ after-split s d p g.pre ms' subs-are;
           bottom = λ z. absurd (up z);
           insts = omega (arith, A, w.insts, g.insts);
           elems = omega (arith, B, w.elems, g.elems);
@@ -381,9 +375,6 @@ module _ {s : Recipe} {t₀ inst₀ : List ℕ} {i e n : ℕ} (R : WalkRequires 
   def-place : In d (places s)
   def-place = (definition-place s d R.definition).0
 
-  pub row-cell : 6 * i + 0 < length inst₀
-  row-cell = omega (arith, R.few, R.room)
-
   pub count-first : {r : ℕ} → r ≡ d → (r + 2 < length t₀) × In r (places s)
   count-first e = rw e (omega (arith, row_room c₀ d def-place), def-place)
 
@@ -392,14 +383,11 @@ module _ {s : Recipe} {t₀ inst₀ : List ℕ} {i e n : ℕ} (R : WalkRequires 
       let y : c ≡ length (elements s d) = z ∙ ap (λ (k : ℕ). get_or t₀ (k + 2) 0) q ∙ R.linked.numbered.counts d R.definition in
       (y, omega (arith, R.light))
 
-  pub loop-start : {r c p : ℕ} → r ≡ d → c ≡ get_or t₀ (r + 2) 0 → p ≡ submodel_after s (holder s r) r → WalkLoop s n d i e t₀ inst₀ t₀ inst₀ (i + 1) (e + c) p
-  loop-start {r} {c} {p} q z b =
-      let v = own-count q z in
-      let h : holder s d ≡ d = holder-own s d R.definition in record {
+  pub loop-start : {r c : ℕ} {ms : List ℕ} → r ≡ d → c ≡ get_or t₀ (r + 2) 0 → ms ≡ submodels s r → WalkLoop s n d i e t₀ inst₀ t₀ inst₀ (i + 1) (e + c) ms
+  loop-start q z b =
+      let v = own-count q z in record {
         pre = [];
-        ms = submodels s d;
-        split = refl;
-        at = b ∙ rw (q, h) (after-start s d R.definition);
+        split = sym (b ∙ ap (submodels s) q);
         bottom = λ y. refl;
         insts = omega arith;
         elems = omega (arith, v.0);
@@ -412,30 +400,13 @@ module _ {s : Recipe} {t₀ inst₀ : List ℕ} {i e n : ℕ} (R : WalkRequires 
         left = record { kept = kept-all s _ t₀; long = refl };
       }
 
-  pub loop-end : {t inst : List ℕ} {ok : Bool} {j x j' x' p : ℕ} (g : WalkLoop s n d i e t₀ inst₀ t inst j x p) → length s.bytes ≤ p → ok ≡ true → j' ≡ j → x' ≡ x
-      → Out s n d i e t₀ inst₀ t inst ok j' x'
-  loop-end {p = p} g l o a b =
-      let r = loop-done s n d i e g (over-all g.ms (λ m k. in_all m k) g.at) in
-      (o ∙ r.0, ((λ y. rw (a, b) r.1), g.left))
-    where
-      in_all : (m : ℕ) → In m g.ms → m < length s.bytes
-      in_all m k = place-low s m (in-submodels s d m (rw g.split (append_right g.pre g.ms m k))).placed
-
-      over-all : (ms : List ℕ) → ((m : ℕ) → In m ms → m < length s.bytes) → p ≡ head_of s ms → ms ≡ []
-      over-all [] h q = refl
-      over-all (m ∷ ms) h q = absurd (omega (arith, h m (inl refl)))
+  pub loop-end : {t inst : List ℕ} {j x : ℕ} {ms : List ℕ} (g : WalkLoop s n d i e t₀ inst₀ t inst j x ms) → ms ≡ [] → Out s n d i e t₀ inst₀ t inst true j x
+  loop-end g z = let r = loop-done s n d i e g z in (r.0, ((λ y. r.1), g.left))
 
   -- at a submodel p
-  module _ {t inst : List ℕ} {j x p : ℕ} (g : WalkLoop s n d i e t₀ inst₀ t inst j x p) (l : p < length s.bytes) where
-    the-left : (ms' : List ℕ) × (g.ms ≡ p ∷ ms')
-    the-left = first-left g.ms g.at
-      where
-        first-left : (ms : List ℕ) → p ≡ head_of s ms → (ms' : List ℕ) × (ms ≡ p ∷ ms')
-        first-left [] q = absurd (omega arith)
-        first-left (m ∷ ms) q = (ms, ap (λ (z : ℕ). z ∷ ms) (sym q))
-
+  module _ {t inst : List ℕ} {j x p : ℕ} {ms ms' : List ℕ} (g : WalkLoop s n d i e t₀ inst₀ t inst j x ms) (l : ms ≡ p ∷ ms') where
     here-sub : In p (submodels s d)
-    here-sub = is-sub s n d i e g the-left.0 the-left.1 R.flat
+    here-sub = is-sub s n d i e g l R.flat
 
     here-held : Held s (is_submodel s) d p
     here-held = in-submodels s d p here-sub
@@ -450,7 +421,7 @@ module _ {s : Recipe} {t₀ inst₀ : List ℕ} {i e n : ℕ} (R : WalkRequires 
     sub-room = row_room c₁ p here-held.placed
 
     pub sub_low : p < 16384
-    sub_low = omega (arith, c₁.short)
+    sub_low = omega (arith, c₁.short, place-low s p here-held.placed)
 
     pub sub-place : In p (places s)
     sub-place = here-held.placed
@@ -469,7 +440,7 @@ module _ {s : Recipe} {t₀ inst₀ : List ℕ} {i e n : ℕ} (R : WalkRequires 
     count-is q z = z ∙ ap (λ (k : ℕ). get_or t (k + 2) 0) (model_is q) ∙ now-linked.numbered.counts (model_of s p) model-def
 
     fail : (n ≡ 0 → ⊥) → over (n - 1) s (model_of s p) j x ≡ true → false ≡ not (over n s d i e)
-    fail = loop-fail s n d i e g the-left.0 the-left.1 R.flat
+    fail = loop-fail s n d i e g l R.flat
 
     -- a limit is passed here
     pub no_room : {m c : ℕ} → m ≡ get_or t (p + 3) 0 → c ≡ get_or t (m + 2) 0 → eqb n 0 || leb most_instances j || ltb (most_elements - x) c ≡ true → false ≡ not (over n s d i e)
@@ -534,15 +505,8 @@ module _ {s : Recipe} {t₀ inst₀ : List ℕ} {i e n : ℕ} (R : WalkRequires 
         turn-fails h f = out-fail f (fail r.up (answer-no ok _ out.0 h)) keeps_on
 
         -- it goes through: the submodels behind it are left
-        pub after-linked : Linked s t'
-        after-linked = linked-over keeps_on.kept refl refl R.linked
-
-        pub turn-goes : {p' : ℕ} → not ok ≡ false → p' ≡ submodel_after s (holder s p) p → WalkLoop s n d i e t₀ inst₀ t' inst' j' x' p'
-        turn-goes h f =
+        pub turn-goes : not ok ≡ false → WalkLoop s n d i e t₀ inst₀ t' inst' j' x' ms'
+        turn-goes h =
             let y = answer-yes ok _ out.0 h in
-            loop-more s n d i e g the-left.0 the-left.1 R.flat r.up here-held.held (omega (arith, sub-room)) a
+            loop-more s n d i e g l R.flat r.up here-held.held (omega (arith, sub-room)) a
             (b ∙ ap (λ (k : ℕ). sets inst (6 * j) (k ∷ (most_depth - (n - 1)) ∷ x ∷ p ∷ i ∷ 0 ∷ [])) (model_is q)) y.1 (out.1.0 y.0) keeps_on
-            (f ∙ ap (λ (k : ℕ). submodel_after s k p) here-held.held)
-
-        pub further : {p' : ℕ} → p' ≡ submodel_after s (holder s p) p → p < p'
-        further f = rw f (after-further s (holder s p) p l)

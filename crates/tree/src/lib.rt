@@ -1,17 +1,18 @@
 // The tree of a recipe: its instances, and the refusal 7.
-// For the floors above: plant, the columns of an instance's row, and InstancesOf, the instances of one definition. They take the name width w, the shadow t and, for the rows of the instances, inst.
+// For the floors above: plant, the columns of an instance's row, and InstancesOf, the instances of one definition. They take the recipe s, the shadow t and, for the rows of the instances, inst.
 #![tactic(auto)]
 
 ghost use Rattle.std.specs.Prelude.{◌≡◌, not, is_some, IfSome, [], ◌∷◌, ◌*◌, ◌+◌, ◌≤◌, ◌<◌, length, get_or};
 ghost use Rattle.std.proofs.lemmas.List.Edits.{sets};
-ghost use Rattle.recipe.specs.Records.{recipe_at};
+ghost use Rattle.recipe.specs.Records.{recipe};
 ghost use Rattle.shadow.specs.Columns.{Measured};
 ghost use Rattle.tree.specs.Faults.{is_too_large};
 ghost use Rattle.tree.specs.Tree.{tree_elements};
 ghost use Rattle.tree.specs.Walk.{over, WalkRequires, Grown, WalkKeeps};
 ghost use Rattle.tree.specs.Planted.{Planted, ThreadRequires, Threaded};
 
-use shadow::{cell, set_cell};
+use recipe::Source;
+use shadow::{SubmodelsOf, cell, set_cell};
 
 // The columns of an instance's row.
 pub const DEFINITION: usize = 0;
@@ -60,10 +61,7 @@ impl<'a> Iterator for InstancesOf<'a> {
     ghost remaining = { instances_left };
 
     fn next(&mut self) -> Option<usize> {
-        if self.next == 0 {
-            return None;
-        }
-        let i = self.next - 1;
+        let i = self.next.checked_sub(1)?;
         self.next = cell(self.rows, 6 * i, NEXT_SAME);
         Some(i)
     }
@@ -98,22 +96,20 @@ fn put_row(inst: &mut [u16], i: usize, d: usize, depth: usize, e: usize, sub: us
 
 // The tree below the instance of row i, which is written, unless it does not fit: the rows behind it, its elements numbered from e on, and the offsets of its submodels; `left` deep at most.
 fn walk(
-    s: &[u8],
-    w: usize,
+    s: &Source,
     t: &mut [u16],
     inst: &mut [u16],
     i: usize,
     e: usize,
     left: usize,
 ) -> Option<Size>
-    requires { WalkRequires (recipe_at w s.now) t.old inst.old i e left }
-    ensures { (is_some result ≡ not (over left (recipe_at w s.now) (get_or inst.old (6 * i + 0) 0) i e)) × (IfSome result (λ n. Grown (recipe_at w s.now) left (get_or inst.old (6 * i + 0) 0) i e t.old inst.old t.new inst.new n.insts n.elems) × WalkKeeps (recipe_at w s.now) t.old inst.old t.new inst.new) }
+    requires { WalkRequires (recipe s.now) t.old inst.old i e left }
+    ensures { (is_some result ≡ not (over left (recipe s.now) (get_or inst.old (6 * i + 0) 0) i e)) × (IfSome result (λ n. Grown (recipe s.now) left (get_or inst.old (6 * i + 0) 0) i e t.old inst.old t.new inst.new n.insts n.elems) × WalkKeeps (recipe s.now) t.old inst.old t.new inst.new) }
 {
     let d = cell(inst, 6 * i, DEFINITION);
     let mut j = i + 1;
     let mut x = e + cell(t, d, shadow::ELEMENT_COUNT);
-    let mut p = shadow::next_submodel(s, w, t, d);
-    while p < s.len() {
+    for p in SubmodelsOf::definition(&*s, d) {
         let m = cell(t, p, shadow::MODEL);
         let c = cell(t, m, shadow::ELEMENT_COUNT);
         if (left == 0) | (j >= MOST_INSTANCES) | (c > MOST_ELEMENTS - x) {
@@ -121,18 +117,17 @@ fn walk(
         }
         set_cell(t, p, shadow::ELEMENT_OFFSET, x - e);
         put_row(inst, j, m, MOST_DEPTH - (left - 1), x, p, i);
-        let n = walk(s, w, t, inst, j, x, left - 1)?;
+        let n = walk(s, t, inst, j, x, left - 1)?;
         j = n.insts;
         x = n.elems;
-        p = shadow::next_submodel(s, w, t, p);
     }
     Some(Size { insts: j, elems: x })
 }
 
-// Threads the n instances of the recipe s, of name width w, from the last to the first: each definition's first instance, and each instance's next one of its definition.
-fn thread_instances(s: &[u8], w: usize, t: &mut [u16], inst: &mut [u16], n: usize)
-    requires { ThreadRequires (recipe_at w s.now) t.old inst.old n }
-    ensures { Threaded (recipe_at w s.now) t.old inst.old t.new inst.new n }
+// Threads the n instances of the recipe s, from the last to the first: each definition's first instance, and each instance's next one of its definition.
+fn thread_instances(s: &Source, t: &mut [u16], inst: &mut [u16], n: usize)
+    requires { ThreadRequires (recipe s.now) t.old inst.old n }
+    ensures { Threaded (recipe s.now) t.old inst.old t.new inst.new n }
 {
     for i in (0..n).rev() {
         let d = cell(inst, 6 * i, DEFINITION);
@@ -143,16 +138,16 @@ fn thread_instances(s: &[u8], w: usize, t: &mut [u16], inst: &mut [u16], n: usiz
 }
 
 // The size of a tree that row 7 lets pass; the rows of the instances, the offsets of the submodels, and the instances of each definition.
-pub fn plant(s: &[u8], w: usize, t: &mut [u16], inst: &mut [u16]) -> Option<Size>
-    requires { Measured (recipe_at w s.now) t.old × ((0 < length s.now) × (6 * 64 ≤ length inst.old)) }
-    ensures { (is_some result ≡ not (is_too_large (recipe_at w s.now))) × (IfSome result (λ n. Planted (recipe_at w s.now) t.new inst.new n.insts × (n.elems ≡ length (tree_elements (recipe_at w s.now)))) × ((length t.new ≡ length t.old) × (length inst.new ≡ length inst.old))) }
+pub fn plant(s: &Source, t: &mut [u16], inst: &mut [u16]) -> Option<Size>
+    requires { Measured (recipe s.now) t.old × ((0 < length s.now.bytes.now) × (6 * 64 ≤ length inst.old)) }
+    ensures { (is_some result ≡ not (is_too_large (recipe s.now))) × (IfSome result (λ n. Planted (recipe s.now) t.new inst.new n.insts × (n.elems ≡ length (tree_elements (recipe s.now)))) × ((length t.new ≡ length t.old) × (length inst.new ≡ length inst.old))) }
 {
     if cell(t, 0, shadow::ELEMENT_COUNT) > MOST_ELEMENTS {
         return None;
     }
     put_row(inst, 0, 0, 0, 0, 0, 0);
-    let n = walk(s, w, t, inst, 0, 0, MOST_DEPTH)?;
-    shadow::clear_cells(s, w, t, shadow::FIRST_INSTANCE);
-    thread_instances(s, w, t, inst, n.insts);
+    let n = walk(s, t, inst, 0, 0, MOST_DEPTH)?;
+    shadow::clear_cells(s, t, shadow::FIRST_INSTANCE);
+    thread_instances(s, t, inst, n.insts);
     Some(n)
 }

@@ -1,17 +1,13 @@
--- `bandrolt::main` meets its contract: what it lends has the lengths that printing asks, and no more was read.
+-- `bandrolt::main` meets its contract: what it lends has 01's lengths, and no more was read.
 -- Assumes nothing.
 use native.Mathlib.Omega.{arith}
-use lib.ListN.{length-replicate}
 use Rattle.composer.specs.Printed.{input_room, output_room}
-use Rattle.bandrolt.proofs.Reading.{read-within}
 use Rattle.bandrolt.proofs.main.Goals as goal
 
-pub print_recipe-m-requires : goal.print_recipe-m-requires
-unfolding input_room output_room
-print_recipe-m-requires c =
-    record {
-      whole = rw (c.read_input.auto.input, length-replicate) (omega arith);
-      read = rw length-replicate at (read-within c.in-Read.is c.read_input.ensures);
-      room = rw length-replicate (omega arith);
-      space = rw length-replicate (omega arith);
-    }
+pub read_input-requires : goal.read_input-requires
+unfolding input_room
+read_input-requires c = omega arith
+
+pub print_recipe-requires-clause-room : goal.print_recipe-requires-clause-room
+unfolding output_room
+print_recipe-requires-clause-room c = omega arith

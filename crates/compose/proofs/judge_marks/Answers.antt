@@ -4,20 +4,16 @@ use mathlib.Core.Path.{◌∙◌, refl, sym}
 use Rattle.std.proofs.lemmas.Result.{err_from_is_err_and}
 use Rattle.names.specs.declared.Reason.TheVariants.{Conflicting, Lost, Misclassed, Misfactored, Misreferred}
 use Rattle.names.proofs.Judging.{last-passes, row-behind, row-passed, row-refuses}
-use Rattle.elements.proofs.Elements.{known}
-use Rattle.compose.proofs.Columns.{composed, factors-ready, gones-stepped, no_steps, ready, rows-listed, rows-stepped, wide-still}
+use Rattle.compose.proofs.Columns.{composed, factors-ready, gones-stepped, no_steps, rows-listed, rows-stepped, wide-still}
 use Rattle.compose.proofs.judge_marks.Goals as goal
 
 pub first_conflict-requires : goal.first_conflict-requires
-first_conflict-requires c = (ready c.requires.0, refl)
+first_conflict-requires c = refl
 
 pub returns-in_err-judge : goal.returns-in_err-judge
 returns-in_err-judge c =
     let p = err_from_is_err_and c.from_residual.result c.from_residual.ensures.1 in
     rw (p.1, p.2) (row-refuses Conflicting c.first_conflict.ensures.0 c.judge.ensures _ c.in_err-judge.was, tt)
-
-pub first_misclassed-requires : goal.first_misclassed-requires
-first_misclassed-requires c = c.requires.0.aimed
 
 pub returns-in_err-judge-2 : goal.returns-in_err-judge-2
 returns-in_err-judge-2 c =
@@ -25,18 +21,15 @@ returns-in_err-judge-2 c =
     let a = row-passed Conflicting c.first_conflict.ensures.0 c.judge.ensures c.in_ok-judge.was in
     rw (p.1, p.2) (row-behind Conflicting _ a (row-refuses Misclassed c.first_misclassed.ensures c.judge-2.ensures _ c.in_err-judge-2.was), tt)
 
-pub list_elements-requires : goal.list_elements-requires
-list_elements-requires c = (ready c.requires.0, c.requires.1.1)
-
 pub mark_gone-requires : goal.mark_gone-requires
 mark_gone-requires c =
     let a = row-passed Conflicting c.first_conflict.ensures.0 c.judge.ensures c.in_ok-judge.was in
     let z = c.first_conflict.ensures.1 (c.first_conflict.ensures.0 ∙ a) in
-    (known c.requires.0, (z.0, (z.1, (rows-listed c.requires.0 c.args.el.now _ c.requires.1.1 c.list_elements.ensures.1 c.list_elements.ensures.0, c.requires.1.0))))
+    (z.0, (z.1, rows-listed c.args.tree.now.targeted c.args.el.now _ c.requires c.list_elements.ensures.1 c.list_elements.ensures.0))
 
 pub first_lost-requires : goal.first_lost-requires
 first_lost-requires c =
-    (ready c.requires.0, (c.mark_gone.ensures.0, wide-still c.requires.0 c.args.el.now _ c.requires.1.1 c.list_elements.ensures.1 c.list_elements.ensures.0 _ c.mark_gone.ensures.1))
+    (c.mark_gone.ensures.0, wide-still c.args.tree.now.targeted c.args.el.now _ c.requires c.list_elements.ensures.1 c.list_elements.ensures.0 _ c.mark_gone.ensures.1)
 
 pub returns-in_err-judge-3 : goal.returns-in_err-judge-3
 returns-in_err-judge-3 c =
@@ -47,12 +40,14 @@ returns-in_err-judge-3 c =
 
 pub fill_steps-requires : goal.fill_steps-requires
 fill_steps-requires c =
+    let T = c.args.tree.now.targeted in
     let a = row-passed Conflicting c.first_conflict.ensures.0 c.judge.ensures c.in_ok-judge.was in
-    (ready c.requires.0, (a, (no_steps c.requires.0 c.args.el.now _ c.requires.1.1 c.list_elements.ensures.1 c.list_elements.ensures.0 _ c.mark_gone.ensures.1, wide-still c.requires.0 c.args.el.now _ c.requires.1.1 c.list_elements.ensures.1 c.list_elements.ensures.0 _ c.mark_gone.ensures.1)))
+    (a, (no_steps T c.args.el.now _ c.requires c.list_elements.ensures.1 c.list_elements.ensures.0 _ c.mark_gone.ensures.1, wide-still T c.args.el.now _ c.requires c.list_elements.ensures.1 c.list_elements.ensures.0 _ c.mark_gone.ensures.1))
 
 pub first_misreferred-requires : goal.first_misreferred-requires
 first_misreferred-requires c =
-    (known c.requires.0, (rows-stepped c.requires.0 c.args.el.now _ c.requires.1.1 c.list_elements.ensures.1 c.list_elements.ensures.0 _ c.mark_gone.ensures.1 c.mark_gone.ensures.0 _ c.fill_steps.ensures.1, (gones-stepped c.requires.0 c.args.el.now _ c.requires.1.1 c.list_elements.ensures.1 c.list_elements.ensures.0 _ c.mark_gone.ensures.1 c.mark_gone.ensures.0 _ c.fill_steps.ensures.1, (c.fill_steps.ensures.0, c.requires.1.0))))
+    let T = c.args.tree.now.targeted in
+    (rows-stepped T c.args.el.now _ c.requires c.list_elements.ensures.1 c.list_elements.ensures.0 _ c.mark_gone.ensures.1 c.mark_gone.ensures.0 _ c.fill_steps.ensures.1, (gones-stepped T c.args.el.now _ c.requires c.list_elements.ensures.1 c.list_elements.ensures.0 _ c.mark_gone.ensures.1 c.mark_gone.ensures.0 _ c.fill_steps.ensures.1, c.fill_steps.ensures.0))
 
 pub returns-in_err-judge-4 : goal.returns-in_err-judge-4
 returns-in_err-judge-4 c =
@@ -64,7 +59,7 @@ returns-in_err-judge-4 c =
 
 pub first_misfactored-requires : goal.first_misfactored-requires
 first_misfactored-requires c =
-    factors-ready c.requires.0 c.args.el.now _ c.requires.1.1 c.list_elements.ensures.1 c.list_elements.ensures.0 _ c.mark_gone.ensures.1 c.mark_gone.ensures.0 _ c.fill_steps.ensures.1 _ c.fill_steps.ensures.0 c.first_misreferred.ensures.1.1
+    factors-ready c.args.tree.now.targeted c.args.el.now _ c.requires c.list_elements.ensures.1 c.list_elements.ensures.0 _ c.mark_gone.ensures.1 c.mark_gone.ensures.0 _ c.fill_steps.ensures.1 _ c.fill_steps.ensures.0 c.first_misreferred.ensures.1.1
 
 pub shape_of-el : goal.shape_of-el
 shape_of-el c =
@@ -78,5 +73,5 @@ returns c =
     let e = row-passed Misreferred c.first_misreferred.ensures.0 c.judge-4.ensures c.in_ok-judge-4.was in (
       row-behind Conflicting _ a (row-behind Misclassed _ b (row-behind Lost _ d (row-behind Misreferred _ e (rw (← c.first_misfactored.ensures) c.judge-5.ensures)))),
       last-passes Misfactored _ c.judge-5.ensures
-          (λ z. composed c.requires.0 c.args.el.now _ c.requires.1.1 c.list_elements.ensures.1 c.list_elements.ensures.0 _ c.mark_gone.ensures.1 c.mark_gone.ensures.0 _ c.fill_steps.ensures.1 _ a b d e (sym c.first_misfactored.ensures ∙ z) c.requires.1.0 c.fill_steps.ensures.0 c.first_misreferred.ensures.1.0 c.first_misreferred.ensures.1.1),
+          (λ z. composed c.args.tree.now.targeted c.args.el.now _ c.requires c.list_elements.ensures.1 c.list_elements.ensures.0 _ c.mark_gone.ensures.1 c.mark_gone.ensures.0 _ c.fill_steps.ensures.1 _ a b d e (sym c.first_misfactored.ensures ∙ z) c.args.tree.now.counted c.fill_steps.ensures.0 c.first_misreferred.ensures.1.0 c.first_misreferred.ensures.1.1),
     )

@@ -1,9 +1,9 @@
 -- `elements::aims_at_gone` meets its contract: no instance before the next one has a target that is gone.
 -- Assumes nothing.
-use Rattle.recipe.specs.Records.{is_replaced_by, recipe_at}
+use Rattle.recipe.specs.Records.{is_replaced_by, recipe}
 use Rattle.elements.proofs.Following.{Seeks}
 use Rattle.elements.proofs.Lost.{lost}
 use Rattle.elements.proofs.aims_at_gone.Given as goal
 
 abbrev pub invariant-loop-i : goal.invariant-loop-i
-invariant-loop-i l = Seeks (recipe_at l.w l.s) l.inst (is_replaced_by (recipe_at l.w l.s)) l.p (lost (recipe_at l.w l.s)) l.i-iterator
+invariant-loop-i l = Seeks (recipe l.tree.source.now) l.tree.instances.now (is_replaced_by (recipe l.tree.source.now)) l.p (lost (recipe l.tree.source.now)) l.i-iterator

@@ -1,7 +1,7 @@
 -- `elements::first_lost` meets its contract: no replaced-by before the next record has a target that is gone.
 -- Assumes nothing.
 use mathlib.Core.Path.{◌∙◌, sym}
-use Rattle.recipe.specs.Records.{is_replaced_by, kind, recipe_at}
+use Rattle.recipe.specs.Records.{is_replaced_by, kind, recipe}
 use Rattle.marks.specs.Faults.{fault₁₁}
 use Rattle.elements.proofs.Lost.{not-lost}
 use Rattle.elements.proofs.Passing.{seeking-end, seeking-hit, seeking-on, seeking-place, seeking-start}
@@ -14,21 +14,21 @@ loop-p-init c = seeking-start c.of-p-items.ensures c.into_iter-p-iterator.ensure
 pub aims_at_gone-requires : goal.aims_at_gone-requires
 unfolding is_replaced_by kind
 aims_at_gone-requires c =
-    let p = seeking-place c.requires.0 c.loop-p.invariant c.in-Some.ensures.steps in
-    (c.requires.0, (p, (sym c.is_replaced_by.ensures ∙ c.if-is_replaced_by.true, c.requires.1)))
+    let p = seeking-place c.args.tree.now.targeted c.loop-p.invariant c.in-Some.ensures.steps in
+    (p, (sym c.is_replaced_by.ensures ∙ c.if-is_replaced_by.true, c.requires))
 
 pub returns-then-aims_at_gone : goal.returns-then-aims_at_gone
 unfolding fault₁₁
 returns-then-aims_at_gone c =
-    sym (seeking-hit c.requires.0 c.loop-p.invariant c.in-Some.ensures.steps (sym c.aims_at_gone.ensures ∙ c.if-aims_at_gone.true))
+    sym (seeking-hit c.args.tree.now.targeted c.loop-p.invariant c.in-Some.ensures.steps (sym c.aims_at_gone.ensures ∙ c.if-aims_at_gone.true))
 
 pub loop-p-preserved : goal.loop-p-preserved
 unfolding is_replaced_by kind
 loop-p-preserved c =
-    seeking-on c.requires.0 c.loop-p.invariant c.in-Some.ensures.steps
+    seeking-on c.args.tree.now.targeted c.loop-p.invariant c.in-Some.ensures.steps
     (elim c.else-is_replaced_by.branch [
       | else-is_replaced_by-via-then-is_replaced_by+else-aims_at_gone w ↦ sym w.aims_at_gone.ensures ∙ w.if-aims_at_gone.false
-      | else-is_replaced_by-via-else-is_replaced_by w ↦ not-lost (recipe_at c.args.w c.args.s.now) c.in-Some.p (sym c.is_replaced_by.ensures ∙ w.if-is_replaced_by.false)
+      | else-is_replaced_by-via-else-is_replaced_by w ↦ not-lost (recipe c.args.tree.now.source.now) c.in-Some.p (sym c.is_replaced_by.ensures ∙ w.if-is_replaced_by.false)
     ])
 
 pub returns : goal.returns

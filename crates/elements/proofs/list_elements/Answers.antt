@@ -2,7 +2,7 @@
 -- Assumes nothing.
 use native.Mathlib.Omega.{arith}
 use borrow.Author.Tests.{eq-eqb, ne_eqb}
-use Rattle.recipe.specs.Records.{is_element, kind, recipe_at}
+use Rattle.recipe.specs.Records.{is_element, kind, recipe}
 use Rattle.elements.proofs.Listing.{listed-none, listed_same}
 use Rattle.elements.proofs.Passing.{passing-end, passing-on, passing-place, passing-said, passing-skip, passing-start}
 use Rattle.elements.proofs.list_elements.Goals as goal
@@ -13,21 +13,21 @@ loop-p-init c = passing-start c.of-p-items.ensures c.into_iter-p-iterator.ensure
 pub elements_at-requires : goal.elements_at-requires
 unfolding is_element kind
 elements_at-requires c =
-    let p = passing-place c.requires.0 c.loop-p.invariant c.in-Some.ensures.steps in
-    let said = passing-said c.requires.0 c.loop-p.invariant c.in-Some.ensures.steps in
-    (c.requires.0, (p, (eq-eqb _ 2 c.if-s-p-eq2.true, (said, omega (arith, c.loop-p.auto.el, c.requires.1)))))
+    let p = passing-place c.args.tree.now.targeted c.loop-p.invariant c.in-Some.ensures.steps in
+    let said = passing-said c.args.tree.now.targeted c.loop-p.invariant c.in-Some.ensures.steps in
+    (p, (eq-eqb _ 2 c.if-tree-p.true, (said, omega (arith, c.loop-p.auto.el, c.requires))))
 
-pub loop-p-preserved-then-s-p-eq2 : goal.loop-p-preserved-then-s-p-eq2
-loop-p-preserved-then-s-p-eq2 c =
-    passing-on c.requires.0 c.loop-p.invariant c.in-Some.ensures.steps c.elements_at.ensures.0
+pub loop-p-preserved-then-tree-p : goal.loop-p-preserved-then-tree-p
+loop-p-preserved-then-tree-p c =
+    passing-on c.args.tree.now.targeted c.loop-p.invariant c.in-Some.ensures.steps c.elements_at.ensures.0
 
 pub loop-p-preserved : goal.loop-p-preserved
 unfolding is_element kind
 loop-p-preserved c =
-    let s = recipe_at c.args.w c.args.s.now in
-    passing-skip c.requires.0 c.loop-p.invariant c.in-Some.ensures.steps (is_element s) (listed_same s c.loop-p.el) (ne_eqb _ 2 c.if-s-p-eq2.false)
+    let s = recipe c.args.tree.now.source.now in
+    passing-skip c.args.tree.now.targeted c.loop-p.invariant c.in-Some.ensures.steps (is_element s) (listed_same s c.loop-p.el) (ne_eqb _ 2 c.if-tree-p.false)
 
 pub returns : goal.returns
 returns c =
-    let s = recipe_at c.args.w c.args.s.now in
+    let s = recipe c.args.tree.now.source.now in
     (passing-end (is_element s) (listed_same s c.loop-p.el) c.loop-p.invariant c.in-None.ensures.steps, c.loop-p.auto.el)

@@ -1,19 +1,19 @@
 -- `elements::mark_gone` meets its contract: the elements with numbers below e are marked.
 -- Assumes nothing.
 use native.Mathlib.Omega.{arith}
-use Rattle.recipe.specs.Records.{recipe_at}
+use Rattle.recipe.specs.Records.{recipe}
 use Rattle.elements.proofs.Elements.{element-at, number-low, row-element, rows-over}
 use Rattle.elements.proofs.mark_gone.Goals as goal
 
-pub is_gone-gone-requires : goal.is_gone-gone-requires
-is_gone-gone-requires c =
-    let s = recipe_at c.args.w c.args.s.now in
-    let rows = rows-over s c.loop-e.invariant.0 (omega arith) c.requires.1.1.1.0 in
-    let e = element-at s c.requires.0.row₇ c.loop-e.e (omega (arith, c.loop-e-test.true, c.requires.1.1.1.1)) in
-    (c.requires.0, (c.requires.1.0, (c.requires.1.1.0, row-element c.requires.0.row₇ rows e c.cell-q.ensures.0)))
+pub goes-gone-requires : goal.goes-gone-requires
+goes-gone-requires c =
+    let s = recipe c.args.tree.now.source.now in
+    let rows = rows-over s c.loop-e.invariant.0 (omega arith) c.requires.1.1 in
+    let e = element-at s c.args.tree.now.targeted.planted.row₇ c.loop-e.e (omega (arith, c.loop-e-test.true, c.args.tree.now.counted)) in
+    (c.requires.0, (c.requires.1.0, row-element c.args.tree.now.targeted.planted.row₇ rows e c.cell-q.ensures.0))
 
 pub returns : goal.returns
 returns c = (
-  λ x i. c.loop-e.invariant.1 x i (omega (arith, number-low (recipe_at c.args.w c.args.s.now) c.requires.0.row₇ x i, c.requires.1.1.1.1, c.loop-e-test.false)),
+  λ x i. c.loop-e.invariant.1 x i (omega (arith, number-low (recipe c.args.tree.now.source.now) c.args.tree.now.targeted.planted.row₇ x i, c.args.tree.now.counted, c.loop-e-test.false)),
   c.loop-e.invariant.0,
 )

@@ -1,7 +1,7 @@
 -- `elements::mark_gone` meets its contract: the elements with numbers below e are marked.
 -- Assumes nothing.
 use mathlib.Core.Bool.{cond}
-use Rattle.recipe.specs.Records.{recipe_at}
+use Rattle.recipe.specs.Records.{recipe}
 use Rattle.tree.specs.Tree.{tree_elements}
 use Rattle.elements.specs.Listing.{Only}
 use Rattle.marks.specs.Marks.{is_gone}
@@ -10,5 +10,5 @@ use Rattle.elements.proofs.mark_gone.Given as goal
 
 abbrev pub invariant-loop-e : goal.invariant-loop-e
 invariant-loop-e l =
-    let s = recipe_at l.w l.s in
+    let s = recipe l.tree.source.now in
     Only 2 l.initial.el l.el × ColumnFilled s (tree_elements s) 2 (λ x. cond (is_gone s x) 1 0) l.e l.el

@@ -2,24 +2,23 @@
 -- Assumes nothing.
 use mathlib.Core.Path.{◌∙◌, ap}
 use Rattle.names.specs.Names.{is_blank}
-use Rattle.references.proofs.References.{referring}
 use Rattle.factor_ends.proofs.FactorFaults.{at_field, ended-numbers, factor-blank, factor-ended, factor-undeclared}
 use Rattle.factor_ends.proofs.is_factor_fault.Goals as goal
 
 pub returns-then-is_blank : goal.returns-then-is_blank
 returns-then-is_blank c = λ x F. factor-blank F (c.is_blank.ensures ∙ ap is_blank c.field_at.ensures) c.if-is_blank.true
 
-pub factor_end-z-requires : goal.factor_end-z-requires
-factor_end-z-requires c = (c.requires.0, at_field c.requires.1.1.1)
+pub factor_end-requires : goal.factor_end-requires
+factor_end-requires c = (c.requires.0, at_field c.requires.1.1.1)
 
-pub returns-then-z-eq0 : goal.returns-then-z-eq0
-returns-then-z-eq0 c =
-    λ x F. factor-undeclared F (c.is_blank.ensures ∙ ap is_blank c.field_at.ensures) c.factor_end-z.ensures.0 c.if-is_blank.false c.if-z-eq0.true
+pub returns-in_default : goal.returns-in_default
+returns-in_default c =
+    λ x F. factor-undeclared F (c.is_blank.ensures ∙ ap is_blank c.field_at.ensures) (rw c.in_default.is at c.factor_end.ensures.0) c.if-is_blank.false
 
 pub is_factor-requires : goal.is_factor-requires
 is_factor-requires c =
-    (referring c.requires.0.elements c.requires.0.rows c.requires.1.0, ended-numbers c.requires.1.1.1 (c.is_blank.ensures ∙ ap is_blank c.field_at.ensures) c.factor_end-z.ensures.0 c.requires.0 c.if-z-eq0.false)
+    (c.requires.0.rows, (c.requires.1.0, ended-numbers c.requires.1.1.1 (c.is_blank.ensures ∙ ap is_blank c.field_at.ensures) (rw c.in-Some.is at c.factor_end.ensures.0) c.args.tree.now.targeted))
 
 pub returns : goal.returns
 returns c =
-    λ x F. factor-ended F (c.is_blank.ensures ∙ ap is_blank c.field_at.ensures) c.factor_end-z.ensures.0 c.requires.0 c.if-z-eq0.false c.if-is_blank.false c.is_factor.ensures
+    λ x F. factor-ended F (c.is_blank.ensures ∙ ap is_blank c.field_at.ensures) (rw c.in-Some.is at c.factor_end.ensures.0) c.args.tree.now.targeted c.if-is_blank.false c.is_factor.ensures

@@ -1,24 +1,35 @@
--- `factors::count_entries` meets its contract: those counted, and those from e on, are all.
+-- `factors::count_entries` meets its contract: the survivors that the chain lets pass are the rated.
 -- Assumes nothing.
 use lib.ListN.{length}
-use mathlib.Core.Path.{◌∙◌, ap, sym}
-use Rattle.composer.proofs.Writing.{count-end, count-off, count-on, count-start}
-use Rattle.factors.specs.Sites.{is_entry}
-use Rattle.factors.proofs.Entries.{rated-are}
+use mathlib.Core.Logic.{inl}
+use mathlib.Core.Path.{◌∙◌, ap}
+use native.Mathlib.Omega.{arith}
+use Rattle.std.proofs.Common.{rules, tests}
+use Rattle.recipe.specs.Records.{recipe}
+use Rattle.composer.specs.Surviving.{survivors_left}
+use Rattle.composer.specs.Writing.{element_at}
+use Rattle.composer.proofs.Surviving.{fates-few, stay-start, surviving-few}
+use Rattle.factors.specs.Companion.{is_rated}
+use Rattle.factors.proofs.Entries.{entries-counted}
+use Rattle.factors.proofs.Filtering.{filtered, serves-from-first}
 use Rattle.factors.proofs.count_entries.Goals as goal
 
-pub loop-e-init : goal.loop-e-init
-loop-e-init c =
-    count-start (record { width = c.args.w; bytes = c.args.s.now }) (is_entry (record { width = c.args.w; bytes = c.args.s.now })) c.args.elems
+pub count-requires-clause-can : goal.count-requires-clause-can
+count-requires-clause-can c =
+    let C = c.args.c.now.composed in
+    let S = stay-start c.args.c.now.elements.now c.args.c.now.tree.size.elems in
+    let left = ap survivors_left c.filter.ensures.source ∙ c.of.ensures.1 in
+    (rw c.filter.ensures.source c.of.ensures.0, tt, serves-from-first survivors_left c.filter.ensures.closure (λ x p q k. search (rules, tests)) (λ x i. let l = (S.each x (rw left at i)).0 in search (rules, l, C.count)))
 
-pub loop-e-preserved-then-is_entry : goal.loop-e-preserved-then-is_entry
-loop-e-preserved-then-is_entry c =
-    count-on (record { width = c.args.w; bytes = c.args.s.now }) (is_entry (record { width = c.args.w; bytes = c.args.s.now })) c.loop-e.invariant c.requires.1 c.loop-e-test.true (sym c.is_entry.ensures ∙ c.if-is_entry.true)
-
-pub loop-e-preserved : goal.loop-e-preserved
-loop-e-preserved c =
-    count-off (record { width = c.args.w; bytes = c.args.s.now }) (is_entry (record { width = c.args.w; bytes = c.args.s.now })) c.loop-e.invariant c.requires.1 c.loop-e-test.true (sym c.is_entry.ensures ∙ c.if-is_entry.false)
+pub count-requires-clause-fits : goal.count-requires-clause-fits
+count-requires-clause-fits c =
+    let C = c.args.c.now.composed in
+    inl (omega (arith, ap length (ap survivors_left c.filter.ensures.source ∙ c.of.ensures.1), surviving-few c.args.c.now.elements.now 0 c.args.c.now.tree.size.elems, fates-few C))
 
 pub returns : goal.returns
 returns c =
-    count-end (record { width = c.args.w; bytes = c.args.s.now }) (is_entry (record { width = c.args.w; bytes = c.args.s.now })) c.loop-e.invariant c.requires.1 c.loop-e-test.false ∙ ap length (rated-are (record { width = c.args.w; bytes = c.args.s.now }))
+    let C = c.args.c.now.composed in
+    let s = recipe c.args.c.now.tree.source.now in
+    let r = c.count.ensures.ran in
+    r.2 ∙ ap length (filtered survivors_left _ _ (λ e. is_rated s (element_at s e)) (λ x b q k. search (rules, tests)) r.0 c.filter.result r.1.1.0 r.1.0 c.filter.ensures.closure r.1.1.1 r.1.1.2)
+    ∙ entries-counted C (ap survivors_left c.filter.ensures.source ∙ c.of.ensures.1)

@@ -1,11 +1,14 @@
 -- `factors::factor_site` meets its contract: the row of the end of the chain, if there is one.
 -- Assumes nothing.
 use native.Mathlib.Omega.{arith}
-use Rattle.factors.proofs.Sites.{factor-room, factor-site}
+use Rattle.factors.proofs.Sites.{found-room, found-site, lost-site}
 use Rattle.factors.proofs.factor_site.Goals as goal
 
-pub site_at-requires : goal.site_at-requires
-site_at-requires c = (omega (arith, c.factor_end-z.ensures.1), factor-room c.requires.0 c.factor_end-z.ensures.0 c.requires.1)
+pub returns-in_err-z : goal.returns-in_err-z
+returns-in_err-z c = rw c.from_residual.ensures (lost-site c.args.c.now.composed _ c.factor_end.ensures.0 c.in_err-z.was, tt)
+
+pub of-requires : goal.of-requires
+of-requires c = omega (arith, found-room c.args.c.now.composed _ c.factor_end.ensures.0 c.in_ok-z.was c.requires)
 
 pub returns : goal.returns
-returns c = (factor-site c.requires.0 c.factor_end-z.ensures.0 c.site_at.ensures.0, c.site_at.ensures.1)
+returns c = (found-site c.args.c.now.composed _ c.factor_end.ensures.0 c.in_ok-z.was c.of.ensures.0, c.of.ensures.1)

@@ -1,7 +1,7 @@
 -- `flat_names::fewest_underscores` meets its contract: the tries begin with two, and go on with the count that the outer names left.
 -- Assumes nothing.
 use native.Mathlib.Omega.{arith}
-use Rattle.recipe.specs.Records.{recipe_at}
+use Rattle.recipe.specs.Records.{recipe}
 use Rattle.flat_names.proofs.Underscores.{last_some}
 use Rattle.flat_names.proofs.Looking.{Both, own_room, stem, both-in}
 use Rattle.flat_names.proofs.Counter.{both-looked}
@@ -18,7 +18,7 @@ pub cell-inner-requires : goal.cell-inner-requires
 cell-inner-requires c =
     omega (arith, own_room c.requires.0 c.args.m c.requires.1, c.requires.0.numbered.shadowed.room, c.requires.0.numbered.shadowed.wide)
 
-both : (c : After-cell-inner) → Both (recipe_at c.args.w c.args.s.now) c.args.m c.cell-outer.result c.cell-inner.result
+both : (c : After-cell-inner) → Both (recipe c.args.s.now) c.args.m c.cell-outer.result c.cell-inner.result
 both c = both-in c.requires.0 c.args.m c.requires.1 c.cell-outer.ensures.0 c.cell-inner.ensures.0
 
 pub raise_count-u-requires : goal.raise_count-u-requires

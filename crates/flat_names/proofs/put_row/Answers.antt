@@ -4,7 +4,7 @@ use native.Mathlib.Omega.{arith}
 use mathlib.Core.Path.{◌≡◌, ◌∙◌}
 use Prim.Native.Nat.{◌+◌}
 use lib.ListN.{length}
-use Rattle.recipe.specs.Records.{recipe_at}
+use Rattle.recipe.specs.Records.{recipe}
 use Rattle.recipe.proofs.Definitions.{name-short}
 use Rattle.flat_names.specs.Prefixes.{prefix}
 use Rattle.flat_names.proofs.Looking.{own_room}
@@ -16,15 +16,15 @@ pub name_length-n-requires : goal.name_length-n-requires
 name_length-n-requires c = own_room c.requires.0 c.args.m c.requires.1.0
 
 -- the name and its underscores are the prefix
-size : (c : After-fewest_underscores-u) → c.name_length-n.result + c.fewest_underscores-u.result ≡ length (prefix (recipe_at c.args.w c.args.s.now) c.args.m)
-size c = row-length (recipe_at c.args.w c.args.s.now) c.args.m _ _ c.name_length-n.ensures c.fewest_underscores-u.ensures
+size : (c : After-fewest_underscores-u) → c.name_length-n.result + c.fewest_underscores-u.result ≡ length (prefix (recipe c.args.s.now) c.args.m)
+size c = row-length (recipe c.args.s.now) c.args.m _ _ c.name_length-n.ensures c.fewest_underscores-u.ensures
 
 pub overflow_add-m : goal.overflow_add-m
 overflow_add-m c = omega (arith, own_room c.requires.0 c.args.m c.requires.1.0, c.requires.0.numbered.shadowed.short)
 
 pub put_bytes-requires : goal.put_bytes-requires
 put_bytes-requires c =
-    (omega (arith, own_room c.requires.0 c.args.m c.requires.1.0, name-short (recipe_at c.args.w c.args.s.now) c.args.m), omega (arith, size (goal.at.put_bytes-requires c).After-fewest_underscores-u))
+    (omega (arith, own_room c.requires.0 c.args.m c.requires.1.0, name-short (recipe c.args.s.now) c.args.m), omega (arith, size (goal.at.put_bytes-requires c).After-fewest_underscores-u))
 
 pub overflow_add-l : goal.overflow_add-l
 overflow_add-l c = omega (arith, size (goal.at.overflow_add-l c).After-fewest_underscores-u)
@@ -38,4 +38,4 @@ put_underscores-end-requires c = omega (arith, size (goal.at.put_underscores-end
 pub returns : goal.returns
 returns c =
     let copied = c.copy_within.ensures.after ∙ row-copied c.args.pre.now c.args.from c.args.l c.args.to (omega arith) (omega arith) in
-    (omega (arith, size (goal.at.returns c).After-fewest_underscores-u), row-parts (recipe_at c.args.w c.args.s.now) c.args.m c.name_length-n.result c.fewest_underscores-u.result c.args.l c.args.pre.now _ _ _ c.args.from c.args.to c.name_length-n.ensures c.fewest_underscores-u.ensures (omega arith) copied c.put_bytes.ensures c.put_underscores-end.ensures.1)
+    (omega (arith, size (goal.at.returns c).After-fewest_underscores-u), row-parts (recipe c.args.s.now) c.args.m c.name_length-n.result c.fewest_underscores-u.result c.args.l c.args.pre.now _ _ _ c.args.from c.args.to c.name_length-n.ensures c.fewest_underscores-u.ensures (omega arith) copied c.put_bytes.ensures c.put_underscores-end.ensures.1)

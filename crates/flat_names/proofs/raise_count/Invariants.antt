@@ -2,12 +2,12 @@
 -- Assumes nothing.
 use Prim.Native.Nat.{◌-◌}
 use lib.ListN.{length}
-use Rattle.recipe.specs.Records.{recipe_at}
+use Rattle.recipe.specs.Records.{recipe}
 use Rattle.flat_names.proofs.Looking.{RaiseLoop}
 use Rattle.flat_names.proofs.raise_count.Given as goal
 
 abbrev pub invariant-loop-p : goal.invariant-loop-p
-invariant-loop-p l = RaiseLoop (recipe_at l.w l.s) l.d l.m l.u l.p l.count
+invariant-loop-p l = RaiseLoop (recipe l.s) l.d l.m l.u l.p l.count
 
 abbrev pub decreases-loop-p : goal.decreases-loop-p
-decreases-loop-p l = length l.s - l.p
+decreases-loop-p l = length l.s.bytes.now - l.p

@@ -1,6 +1,6 @@
 -- `heights::settle` meets its contract: the definitions before the next record are settled, and none is in progress.
 -- Assumes nothing.
-use Rattle.recipe.specs.Records.{recipe_at}
+use Rattle.recipe.specs.Records.{recipe}
 use Rattle.recipe.proofs.Steps.{over-end, over-start, over-step}
 use Rattle.shadow.proofs.Cells.{kept_then}
 use Rattle.heights.proofs.Settling.{linked-heights, settles-enters, settles-start, settles_end, settles_on}
@@ -8,7 +8,7 @@ use Rattle.heights.proofs.settle.Goals as goal
 
 pub loop-p-init : goal.loop-p-init
 loop-p-init c =
-    let o = over-start (recipe_at c.args.w c.args.s.now) c.of-p-items.ensures c.into_iter-p-iterator.ensures.into_iter_gives in
+    let o = over-start (recipe c.args.s.now) c.of-p-items.ensures c.into_iter-p-iterator.ensures.into_iter_gives in
     (o.0, rw o.1 (settles-start c.clear_cells.ensures.0))
 
 pub settle_from-requires : goal.settle_from-requires

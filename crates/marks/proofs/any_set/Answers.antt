@@ -1,8 +1,6 @@
 -- `marks::any_set` meets its contract: a test of a slice.
 -- Assumes nothing.
 use Prim.Native.Nat.{◌+◌}
-use lib.Dec.{eqb}
-use mathlib.Core.Bool.{not}
 use mathlib.Core.Path.{◌∙◌}
 use Rattle.std.proofs.Common.{rules, tests}
 use Rattle.std.proofs.lemmas.Iterator.{YieldsList-from_slice}
@@ -13,6 +11,6 @@ use Rattle.marks.proofs.any_set.Goals as goal
 
 pub returns : goal.returns
 returns c =
-    any_from_yields_List (λ x. not (eqb x 0)) _ _ c.any.result c.any.ensures.ran
+    any_from_yields_List (λ b. b) _ _ c.any.result c.any.ensures.ran
     (YieldsList-from_slice (slice_range c.args.cells.now c.args.a (c.args.a + c.args.n)) cc) (λ x b q k. search (rules, tests))
     ∙ any-range c.args.cells.now c.args.a c.args.n c.requires

@@ -3,7 +3,7 @@
 use mathlib.Core.Path.{◌≡◌}
 use Prim.Native.Nat.{◌*◌, ◌<◌}
 use lib.ListN.{length}
-use Rattle.recipe.specs.Records.{recipe_at}
+use Rattle.recipe.specs.Records.{recipe}
 use Rattle.recipe.proofs.Going.{Going}
 use Rattle.recipe.proofs.Steps.{Over}
 use Rattle.marks.specs.Cells.{Stamped}
@@ -12,8 +12,8 @@ use Rattle.marks.proofs.first_conflict.Given as goal
 
 abbrev pub invariant-loop-p : goal.invariant-loop-p
 invariant-loop-p l = record {
-  over : Over (recipe_at l.w l.s) l.p-iterator;
-  going : Going (recipe_at l.w l.s) (conflicts_with_earlier (recipe_at l.w l.s)) l.p-iterator.at;
-  stamped : Stamped (recipe_at l.w l.s) (λ q. q.place < l.p-iterator.at) l.cells;
+  over : Over (recipe l.tree.source.now) l.p-iterator;
+  going : Going (recipe l.tree.source.now) (conflicts_with_earlier (recipe l.tree.source.now)) l.p-iterator.at;
+  stamped : Stamped (recipe l.tree.source.now) (λ q. q.place < l.p-iterator.at) l.cells;
   long : length l.cells ≡ 12 * 1024;
 }

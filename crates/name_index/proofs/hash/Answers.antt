@@ -3,9 +3,8 @@
 use Rattle.name_index.proofs.Hashing.{hash-short, hash-long}
 use Rattle.name_index.proofs.hash.Goals as goal
 
-pub returns-then-n-lt8 : goal.returns-then-n-lt8
-returns-then-n-lt8 c = hash-short _ c.if-n-lt8.true
+pub returns-in_default : goal.returns-in_default
+returns-in_default c = hash-short _ c.in_default.ensures.cases
 
 pub returns : goal.returns
-returns c =
-    hash-long _ c.if-n-lt8.false c.mix_eights.ensures c.four.ensures.0 c.four-2.ensures.0 c.mix.ensures
+returns c = hash-long _ c.in-Some.ensures.cases.0 c.mix_eights.ensures c.in-Some.ensures.cases.1.same c.mix.ensures

@@ -1,18 +1,20 @@
--- `name_index::hash_names` meets its contract: the invariant: the first i places are filled, the others as they were.
+-- `name_index::hash_names` meets its contract: the invariant: the first p places are filled, the others as they were.
 -- Assumes nothing.
 use mathlib.Core.Path.{ap, ◌∙◌}
 use native.Mathlib.Omega.{arith}
+use Rattle.names.specs.Names.{field_at}
 use Rattle.name_index.specs.Hash.{hash_of}
-use Rattle.names.proofs.Tables.{filled-one, filled-end}
-use Rattle.name_index.proofs.Merging.{whole_below}
+use Rattle.name_index.specs.Index.{name_of}
+use Rattle.names.proofs.Tables.{filled-one}
+use Rattle.name_index.proofs.Positions.{whole-room, filled-all}
 use Rattle.name_index.proofs.hash_names.Goals as goal
 
-pub name_at-requires : goal.name_at-requires
-name_at-requires c = whole_below c.requires.whole c.loop-i-test.true
+pub field_at-requires : goal.field_at-requires
+field_at-requires c = whole-room c.requires c.loop-p-test.true
 
-pub loop-i-preserved : goal.loop-i-preserved
-loop-i-preserved c =
-    (omega arith, filled-one c.loop-i.invariant.1 (omega (arith, c.loop-i.invariant.1.long, c.requires.enough)) (c.hash.ensures ∙ ap hash_of c.name_at.ensures))
+pub loop-p-preserved : goal.loop-p-preserved
+unfolding name_of field_at
+loop-p-preserved c = filled-one c.loop-p.invariant (omega (arith, c.loop-p.invariant.long)) (c.hash.ensures ∙ ap hash_of c.field_at.ensures)
 
 pub returns : goal.returns
-returns c = filled-end c.loop-i.invariant.1 c.loop-i.invariant.0 c.loop-i-test.false c.requires.enough
+returns c = filled-all c.loop-p.invariant c.loop-p.auto.p-end c.loop-p-test.false

@@ -1,22 +1,18 @@
--- `names::unpadded` meets its contract: the invariant: no byte before i is zero.
+-- `names::unpadded` meets its contract: as many bytes as are not zero, from the start.
 -- Assumes nothing.
-use Rattle.names.proofs.Names.{text-part, padding, no-pad}
-use Rattle.names.proofs.Runs.{passed_start, passed-one, run-stop, run_end}
-use lib.Seq.{length-take-le, take_all}
-use mathlib.Core.Path.{sym, ◌∙◌}
+use mathlib.Core.Bool.{not}
+use lib.Dec.{eqb}
+use borrow.Author.Rules.{rules}
+use borrow.Author.Tests.{tests}
+use Rattle.std.proofs.lemmas.Iterator.{YieldsList-from_slice}
+use Rattle.std.proofs.lemmas.Iterator.Consumers.{count_from_yields_List, YieldsList-at}
+use Rattle.std.proofs.lemmas.Iterator.Search.{YieldsList-from_take_while}
+use Rattle.names.proofs.Names.{text-part}
 use Rattle.names.proofs.unpadded.Goals as goal
 
-pub loop-i-init : goal.loop-i-init
-loop-i-init c = passed_start _ _
-
-pub slice_bounds-result-end : goal.slice_bounds-result-end
-slice_bounds-result-end c = sym (length-take-le _ _ c.loop-i.invariant.within)
-
-pub returns-then-f-i-eq0 : goal.returns-then-f-i-eq0
-returns-then-f-i-eq0 c = text-part _ (run-stop _ _ c.loop-i.invariant (padding c.if-f-i-eq0.true))
-
-pub loop-i-preserved : goal.loop-i-preserved
-loop-i-preserved c = passed-one _ _ c.loop-i.invariant c.loop-i-test.true (no-pad c.if-f-i-eq0.false)
-
 pub returns : goal.returns
-returns c = sym (take_all _ _ c.loop-i-test.false) ∙ text-part _ (run_end _ _ c.loop-i.invariant c.loop-i-test.false)
+returns c =
+    text-part _
+    (count_from_yields_List c.take_while.result _ c.count-n.ensures.ran
+    (YieldsList-from_take_while _ (λ x. not (eqb x 0)) (YieldsList-at c.take_while.ensures.source (YieldsList-from_slice _ c.iter.ensures.rest))
+    c.take_while.ensures.closure c.take_while.ensures.done (λ x b q k. search (rules, tests))))

@@ -1,20 +1,19 @@
--- `origins::find_origin` meets its contract: the origin is the first among the elements from e on.
+-- `origins::find_origin` meets its contract: the origin is the first among the elements.
 -- Assumes nothing.
-use mathlib.Core.Path.{◌∙◌, sym}
-use Rattle.origins.proofs.Finding.{find-end, find-hit, find-more, find-start}
+use mathlib.Core.Bool.{false, true}
+use Rattle.std.proofs.Common.{◌≡◌, rules, tests}
+use Rattle.std.proofs.lemmas.Iterator.{first_from_Range}
+use Rattle.recipe.specs.Records.{recipe}
+use Rattle.composer.specs.Writing.{element_at}
+use Rattle.origins.specs.Search.{is_origin}
+use Rattle.origins.proofs.Finding.{found}
 use Rattle.origins.proofs.find_origin.Goals as goal
-
-pub loop-e-init : goal.loop-e-init
-loop-e-init c = find-start (record { width = c.args.w; bytes = c.args.s.now }) c.args.name.now c.args.elems
-
-pub returns-then-is_origin : goal.returns-then-is_origin
-returns-then-is_origin c =
-    find-hit (record { width = c.args.w; bytes = c.args.s.now }) c.args.name.now c.loop-e.invariant c.requires.1 c.loop-e-test.true c.requires.0.naming.small (sym c.is_origin.ensures ∙ c.if-is_origin.true)
-
-pub loop-e-preserved : goal.loop-e-preserved
-loop-e-preserved c =
-    find-more (record { width = c.args.w; bytes = c.args.s.now }) c.args.name.now c.loop-e.invariant c.requires.1 c.loop-e-test.true (sym c.is_origin.ensures ∙ c.if-is_origin.false)
 
 pub returns : goal.returns
 returns c =
-    find-end (record { width = c.args.w; bytes = c.args.s.now }) c.args.name.now c.loop-e.invariant c.requires.1 c.loop-e-test.false
+    let s = recipe c.args.c.now.tree.source.now in
+    let f = c.args.name.now in
+    found s f c.args.c.now.composed.targeted.planted.row₇ c.args.c.now.composed.count c.find.result
+    (first_from_Range _ _ _ _ (λ e. is_origin s f (element_at s e) ≡ true) (λ e. is_origin s f (element_at s e) ≡ false) c.find.ensures.ran
+    (λ x q k. search (rules, tests))
+    (λ x q k. (search rules, search (rules, tests))))

@@ -7,45 +7,49 @@ use Rattle.origins.proofs.Fits.{few-underscores, in_field, name-inside, narrow, 
 use Rattle.origins.proofs.prefix_end.Goals as goal
 
 pub name_length-n-requires : goal.name_length-n-requires
-name_length-n-requires c = submodel-room c.requires
+name_length-n-requires c =
+    submodel-room c.args.tree.now.targeted.planted.measured.linked c.requires
 
 pub overflow_add-m : goal.overflow_add-m
-overflow_add-m c = omega (arith, submodel-room c.requires)
+overflow_add-m c =
+    omega (arith, submodel-room c.args.tree.now.targeted.planted.measured.linked c.requires)
 
 pub field_at-requires : goal.field_at-requires
-field_at-requires c = name-inside c.requires c.name_length-n.ensures
+field_at-requires c =
+    name-inside c.args.tree.now.targeted.planted.measured.linked c.requires c.name_length-n.ensures
 
 pub field_at-requires-2 : goal.field_at-requires-2
-field_at-requires-2 c = in_field c.requires c.name_length-n.ensures
+field_at-requires-2 c =
+    in_field c.args.tree.now.targeted.planted.measured.linked c.requires c.name_length-n.ensures
 
 pub returns-then-not-is_same : goal.returns-then-not-is_same
 returns-then-not-is_same c =
-    no_name c.requires c.name_length-n.ensures (c.is_same.ensures ∙ same-eq c.field_at.ensures c.field_at-2.ensures) c.if-not-is_same.true
+    no_name c.args.tree.now.targeted.planted.measured.linked c.requires c.name_length-n.ensures (c.is_same.ensures ∙ same-eq c.field_at.ensures c.field_at-2.ensures) c.if-not-is_same.true
 
 pub overflow_add-l : goal.overflow_add-l
 overflow_add-l c =
-    omega (arith, in_field c.requires c.name_length-n.ensures)
+    omega (arith, in_field c.args.tree.now.targeted.planted.measured.linked c.requires c.name_length-n.ensures)
 
 pub count_underscores-k-requires : goal.count_underscores-k-requires
 count_underscores-k-requires c =
-    (run_room c.requires c.name_length-n.ensures, narrow c.requires)
+    let L = c.args.tree.now.targeted.planted.measured.linked in
+    (run_room L c.requires c.name_length-n.ensures, narrow L c.requires)
 
 pub returns-then-k-u : goal.returns-then-k-u
 returns-then-k-u c =
-    few-underscores c.requires c.name_length-n.ensures (c.is_same.ensures ∙ same-eq c.field_at.ensures c.field_at-2.ensures) c.if-not-is_same.false c.count_underscores-k.ensures c.fewest_underscores-u.ensures (omega (arith, two-at-least c.requires c.fewest_underscores-u.ensures))
+    let L = c.args.tree.now.targeted.planted.measured.linked in
+    few-underscores L c.requires c.name_length-n.ensures (c.is_same.ensures ∙ same-eq c.field_at.ensures c.field_at-2.ensures) c.if-not-is_same.false c.count_underscores-k.ensures c.fewest_underscores-u.ensures (omega (arith, two-at-least L c.requires c.fewest_underscores-u.ensures))
 
 pub overflow_add-result : goal.overflow_add-result
 overflow_add-result c =
-    omega (arith, narrow c.requires, whole_length c.requires c.name_length-n.ensures c.fewest_underscores-u.ensures, c.requires.room)
+    let L = c.args.tree.now.targeted.planted.measured.linked in
+    omega (arith, narrow L c.requires, whole_length L c.requires c.name_length-n.ensures c.fewest_underscores-u.ensures, c.requires.room)
 
 pub overflow_add-result-2 : goal.overflow_add-result-2
 overflow_add-result-2 c =
-    omega (arith, narrow c.requires, whole_length c.requires c.name_length-n.ensures c.fewest_underscores-u.ensures, c.requires.room)
-
-pub overflow_add-result-3 : goal.overflow_add-result-3
-overflow_add-result-3 c =
-    omega (arith, narrow c.requires, whole_length c.requires c.name_length-n.ensures c.fewest_underscores-u.ensures, c.requires.room)
+    let L = c.args.tree.now.targeted.planted.measured.linked in
+    omega (arith, narrow L c.requires, whole_length L c.requires c.name_length-n.ensures c.fewest_underscores-u.ensures, c.requires.room)
 
 pub returns : goal.returns
 returns c =
-    prefix-there c.requires c.name_length-n.ensures (c.is_same.ensures ∙ same-eq c.field_at.ensures c.field_at-2.ensures) c.if-not-is_same.false c.count_underscores-k.ensures c.fewest_underscores-u.ensures c.if-k-u.false
+    prefix-there c.args.tree.now.targeted.planted.measured.linked c.requires c.name_length-n.ensures (c.is_same.ensures ∙ same-eq c.field_at.ensures c.field_at-2.ensures) c.if-not-is_same.false c.count_underscores-k.ensures c.fewest_underscores-u.ensures c.if-k-u.false

@@ -5,29 +5,32 @@ use Rattle.elements.proofs.Elements.{sibling-few, sibling-number, sibling-room}
 use Rattle.references.proofs.References.{end-few, end_none, end-some, named-tree, reference-steps, referring-room}
 use Rattle.references.proofs.reference_end.Goals as goal
 
-pub cell-q-requires : goal.cell-q-requires
-cell-q-requires c = omega (arith, referring-room c.requires.0 c.requires.1.0 c.requires.1.1.0 c.requires.1.1.1)
+pub link-requires : goal.link-requires
+link-requires c = omega (arith, referring-room c.args.tree.now.targeted c.requires.0 c.requires.1.0 c.requires.1.1)
 
-pub returns-then-q-eq0 : goal.returns-then-q-eq0
-returns-then-q-eq0 c =
-    (end_none c.requires.0 c.requires.1.0 c.requires.1.1.0 c.requires.1.1.1 c.cell-q.ensures.0 c.if-q-eq0.true, omega arith)
+pub returns-in_err-q : goal.returns-in_err-q
+returns-in_err-q c =
+    rw c.from_residual.ensures (end_none c.args.tree.now.targeted c.requires.0 c.requires.1.0 c.requires.1.1 c.link.ensures.0 c.in_err-q.was, omega arith)
 
 pub cell-b-requires : goal.cell-b-requires
 cell-b-requires c =
-    omega (arith, sibling-room c.requires.0 c.requires.1.1.1 _ (named-tree c.requires.0 c.requires.1.0 c.requires.1.1.0 c.requires.1.1.1 c.cell-q.ensures.0 c.if-q-eq0.false))
+    omega (arith, sibling-room c.args.tree.now.targeted c.requires.1.1 _ (named-tree c.args.tree.now.targeted c.requires.0 c.requires.1.0 c.requires.1.1 c.link.ensures.0 c.in_ok-q.was))
 
 pub overflow_sub-e : goal.overflow_sub-e
 overflow_sub-e c =
-    omega (arith, (sibling-number c.requires.0 c.requires.1.1.1 _ (named-tree c.requires.0 c.requires.1.0 c.requires.1.1.0 c.requires.1.1.1 c.cell-q.ensures.0 c.if-q-eq0.false) c.cell-a.ensures.0 c.cell-b.ensures.0).0)
+    let T = c.args.tree.now.targeted in
+    omega (arith, (sibling-number T c.requires.1.1 _ (named-tree T c.requires.0 c.requires.1.0 c.requires.1.1 c.link.ensures.0 c.in_ok-q.was) c.cell-a.ensures.0 c.cell-b.ensures.0).0)
 
 pub overflow_add-e : goal.overflow_add-e
 overflow_add-e c =
-    omega (arith, sibling-few c.requires.0 c.requires.1.1.1 _ (named-tree c.requires.0 c.requires.1.0 c.requires.1.1.0 c.requires.1.1.1 c.cell-q.ensures.0 c.if-q-eq0.false) c.cell-a.ensures.0 c.cell-b.ensures.0)
+    let T = c.args.tree.now.targeted in
+    omega (arith, sibling-few T c.requires.1.1 _ (named-tree T c.requires.0 c.requires.1.0 c.requires.1.1 c.link.ensures.0 c.in_ok-q.was) c.cell-a.ensures.0 c.cell-b.ensures.0)
 
 pub chain_end-requires : goal.chain_end-requires
 chain_end-requires c =
-    reference-steps c.requires.0 c.requires.1.0 c.requires.1.1.0 c.requires.1.1.1 c.cell-q.ensures.0 c.if-q-eq0.false c.cell-a.ensures.0 c.cell-b.ensures.0
+    reference-steps c.args.tree.now.targeted c.requires.0 c.requires.1.0 c.requires.1.1 c.link.ensures.0 c.in_ok-q.was c.cell-a.ensures.0 c.cell-b.ensures.0
 
 pub returns : goal.returns
 returns c =
-    (end-some c.requires.0 c.requires.1.0 c.requires.1.1.0 c.requires.1.1.1 c.cell-q.ensures.0 c.if-q-eq0.false c.cell-a.ensures.0 c.cell-b.ensures.0 c.chain_end.ensures, omega (arith, end-few c.requires.0 c.requires.1.0 c.requires.1.1.0 c.requires.1.1.1 c.cell-q.ensures.0 c.if-q-eq0.false c.cell-a.ensures.0 c.cell-b.ensures.0 c.chain_end.ensures))
+    let T = c.args.tree.now.targeted in
+    (end-some T c.requires.0 c.requires.1.0 c.requires.1.1 c.link.ensures.0 c.in_ok-q.was c.cell-a.ensures.0 c.cell-b.ensures.0 c.chain_end.ensures, omega (arith, end-few T c.requires.0 c.requires.1.0 c.requires.1.1 c.link.ensures.0 c.in_ok-q.was c.cell-a.ensures.0 c.cell-b.ensures.0 c.chain_end.ensures))

@@ -2,14 +2,14 @@
 -- Assumes nothing.
 use mathlib.Core.Path.{refl}
 use native.Mathlib.Omega.{arith}
-use Rattle.recipe.specs.Records.{recipe_at}
+use Rattle.recipe.specs.Records.{recipe}
 use Rattle.recipe.proofs.Steps.{over-end, over-start, over-step}
 use Rattle.shadow.proofs.Clearing.{clear-end, clear-one, clear_room, clear-start}
 use Rattle.shadow.proofs.clear_cells.Goals as goal
 
 pub loop-p-init : goal.loop-p-init
 loop-p-init c =
-    let o = over-start (recipe_at c.args.w c.args.s.now) c.of-p-items.ensures c.into_iter-p-iterator.ensures.into_iter_gives in
+    let o = over-start (recipe c.args.s.now) c.of-p-items.ensures c.into_iter-p-iterator.ensures.into_iter_gives in
     (o.0, rw o.1 (clear-start _ c.args.k _))
 
 pub set_cell-requires : goal.set_cell-requires

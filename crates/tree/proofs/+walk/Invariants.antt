@@ -1,7 +1,9 @@
 -- `tree::walk` meets its contract: its rows, its counts and its offsets, or the first limit that it passes. The depth that is left falls.
 -- Assumes nothing.
-use Prim.Native.Nat.{◌*◌, ◌+◌, ◌-◌}
-use lib.ListN.{get_or, length}
+use Prim.Native.Nat.{◌*◌, ◌+◌}
+use lib.ListN.{get_or}
+use Rattle.recipe.specs.Records.{recipe}
+use Rattle.shadow.specs.Submodels.{submodels_left}
 use Rattle.tree.proofs.Walks.{WalkLoop}
 use Rattle.tree.proofs.+walk.Given as goal
 
@@ -10,7 +12,4 @@ decreases-walk l = l.left
 
 abbrev pub invariant-loop-p : goal.invariant-loop-p
 invariant-loop-p l =
-    WalkLoop (record { width = l.w; bytes = l.s }) l.left (get_or l.initial.inst (6 * l.i + 0) 0) l.i l.e l.initial.t l.initial.inst l.t l.inst l.j l.x l.p
-
-abbrev pub decreases-loop-p : goal.decreases-loop-p
-decreases-loop-p l = length l.s - l.p
+    WalkLoop (recipe l.s) l.left (get_or l.initial.inst (6 * l.i + 0) 0) l.i l.e l.initial.t l.initial.inst l.t l.inst l.j l.x (submodels_left l.p-iterator)

@@ -1,0 +1,28 @@
+-- `IndexedRows::reference_fault` meets its contract: by what the reference field leads to.
+-- Assumes nothing.
+use Rattle.std.specs.Prelude.{None}
+use mathlib.Core.Path.{sym, ap, ◌∙◌}
+use native.Mathlib.Omega.{arith}
+use Rattle.flat_table.specs.Classes.{reference_allowed}
+use Rattle.flat_table.specs.Table.{is_reference_fault}
+use Rattle.flat_table.proofs.Places.{named-row, link-blank, link-missing, link-there, reference-row}
+use Rattle.flat_table.proofs.IndexedRows.reference_fault.Goals as goal
+
+pub returns-then-is_blank : goal.returns-then-is_blank
+unfolding is_reference_fault
+returns-then-is_blank c =
+    link-blank _ _ _ _ _ _ _ c.row-row.ensures.reference c.is_blank.ensures c.if-is_blank.true (c.reference_may_be_blank.ensures ∙ ap (λ k. reference_allowed k None) c.row-row.ensures.class)
+
+pub returns-in_default : goal.returns-in_default
+unfolding is_reference_fault
+returns-in_default c = link-missing _ _ _ _ _ _ _ c.row-row.ensures.reference c.is_blank.ensures c.if-is_blank.false (sym c.find.ensures ∙ c.in_default.is)
+
+pub bounds-self-to : goal.bounds-self-to
+bounds-self-to c =
+    let r = named-row _ c.args.self.now.rows.fields c.find.ensures c.in-Some.is in
+    omega (arith, r.room, r.fields.three)
+
+pub returns : goal.returns
+unfolding is_reference_fault
+returns c =
+    link-there _ _ _ _ _ _ _ c.row-row.ensures.reference c.is_blank.ensures _ c.if-is_blank.false (sym c.find.ensures ∙ c.in-Some.is) (reference-row _ _ _ _ _ c.row-row.ensures.class c.reference_allowed.ensures)
