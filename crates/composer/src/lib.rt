@@ -1,5 +1,5 @@
 // Flattening: a recipe's answer, and its flat table, written from the rooms that composing fills.
-// Public calls, which require nothing: flatten, exported to C by composer_c as bandrolt_flatten; flatten_and_check. For the floors above: source, field_width, record_width, NAME_WIDTH, Survivors, the survivors one after the other, count_survivors, Site, put_field, write_table.
+// Public calls, which require nothing: flatten, exported to C by composer_c as bandrolt_flatten; flatten_and_check. For the floors above: source, field_width, record_width, Survivors, the survivors one after the other, count_survivors, Site, put_field, write_table.
 #![tactic(auto)]
 
 ghost use Rattle.std.specs.Prelude.{◌≡◌, ◌++◌, ◌+◌, ◌*◌, ◌<◌, ◌≤◌, length, get_or, drop, MatchOption, [], ◌∷◌};
@@ -24,7 +24,7 @@ use recipe::Source;
 use shadow::cell;
 
 // 01's name width.
-pub const NAME_WIDTH: usize = 12;
+const NAME_WIDTH: usize = 12;
 
 // Flattening's answer: 0, or the number and place of the refusal; the records and bytes written.
 #[repr(C)]

@@ -262,9 +262,6 @@ module _ {s : Recipe} {t inst el : List ℕ} {insts elems : ℕ} (C : Composed s
   unfolding around
   around-in = get_or-in (instances s) u [] (omega (arith, under))
 
-  pub around-row : 6 * u + 6 ≤ length inst
-  around-row = omega (arith, under, P.rows.room)
-
   -- its depth, by its row
   deep : {d : ℕ} → d ≡ get_or inst (6 * u + 1) 0 → d ≡ length around
   unfolding around

@@ -3,7 +3,7 @@
 use Rattle.std.specs.Prelude.{None, Option, Some, is_some, unwrap_or}
 use mathlib.Core.Path.{◌≡◌, refl, sym, ap, ◌∙◌}
 use mathlib.Core.Logic.{inl, ⊎_elim}
-use mathlib.Core.Bool.{true, false, cond, not, ◌||◌}
+use mathlib.Core.Bool.{Bool, true, false, cond, not, ◌||◌}
 use mathlib.Core.List.{List, [], ◌∷◌}
 use Prim.Native.Nat.{ℕ, ◌+◌, ◌≤◌, ◌<◌}
 use native.Mathlib.Omega.{arith}
@@ -22,17 +22,18 @@ use Rattle.recipe.proofs.Definitions.{submodel-named, in-submodels, model_in}
 use Rattle.recipe.proofs.Reading.{readable, first-model}
 use Rattle.recipe.proofs.Rows.{mark-submodel}
 use Rattle.recipe.proofs.Spans.{definition-place}
-use Rattle.shadow.specs.Shadow.{Cell, Kept}
+use Rattle.shadow.specs.Shadow.{Cell, Kept, linked}
 use Rattle.shadow.specs.Columns.{Linked, Unpaired}
 use Rattle.shadow.proofs.Cells.{cell-over, RowWritten, row-none, row-set, row-left, row_room, Filling}
 use Rattle.shadow.proofs.Columns.{numbered-over}
+use Rattle.shadow.proofs.Links.{link-none, link-some}
 use Rattle.links.specs.declared.Links.{Links}
 use Rattle.record_index.specs.Entries.{record_named, SoughtIn}
 use Rattle.links.specs.Links.{is_pointing, upper_of, lower_of, own_of, links, links_of, Pointed}
 use Rattle.record_index.proofs.Places.{place-room}
 use Rattle.record_index.proofs.Lookups.{element-look, port-look}
 use Rattle.links.proofs.Fields.{FieldAt, sought, target-at-field, way-reads, target-reads}
-use Rattle.links.proofs.Linking.{by-owned, pointing-points, pointing-filled}
+use Rattle.links.proofs.Linking.{by-owned, pointer-byte, pointing-points, pointing-filled}
 
 module _ (s : Recipe) (p : ℕ) (h : is_mark s p || is_port s p ≡ true) where
   -- it is of no other kind
@@ -132,11 +133,26 @@ module _ {s : Recipe} {t : List ℕ} (g : Pointed s t) (p : ℕ) (i : In p (plac
   pub target-kept : (v : ℕ) → is_pointing s p ≡ false → t ≡ cond (is_pointing s p) (set t (p + 5) v) t
   target-kept v b = rw b
 
-  -- ---- name_target, at a port or mark whose cell 4 is not 0
-  module _ (h₃ : fault₃ s ≡ None) (h : is_mark s p || is_port s p ≡ true) {m : ℕ} (em : m ≡ get_or t (p + 4) 0) (n : m ≡ 0 → ⊥)
+  -- ---- name_target: of another kind, or with no submodel, it leaves the shadow
+  module _ {k : Bool} (told : k ≡ pointer_kind (get_or s.bytes p 0)) where
+    pub other-kept : (v : ℕ) → k ≡ false → t ≡ cond (is_pointing s p) (set t (p + 5) v) t
+    other-kept v other = target-kept v (not-pointing s p (pointer-byte s p ∙ (sym told ∙ other)))
+
+    pub unnamed-kept : (v : ℕ) → k ≡ true → {r : Option ℕ} → r ≡ linked (get_or t (p + 4) 0) → r ≡ None → t ≡ cond (is_pointing s p) (set t (p + 5) v) t
+    unnamed-kept v such e none = target-kept v (pointing-none (pointer-byte s p ∙ (sym told ∙ such)) (link-none e none))
+
+  -- and at a port or mark whose cell 4 names the submodel m
+  module _ (h₃ : fault₃ s ≡ None) {k : Bool} (told : k ≡ pointer_kind (get_or s.bytes p 0)) (such : k ≡ true)
+      {r : Option ℕ} {m : ℕ} (er : r ≡ linked (get_or t (p + 4) 0)) (named : r ≡ Some m)
       {o : ℕ} (eo : o ≡ part_offset s.width (get_or s.bytes p 0) (submodel_part (get_or s.bytes p 0))) where
+    h : is_mark s p || is_port s p ≡ true
+    h = pointer-byte s p ∙ (sym told ∙ such)
+
+    em : m ≡ get_or t (p + 4) 0
+    em = (link-some er named).0
+
     b : is_pointing s p ≡ true
-    b = pointing-some h (λ z. n (em ∙ z))
+    b = pointing-some h (λ z. (link-some er named).2 (em ∙ z))
 
     offset-is : o ≡ submodel_offset s p
     unfolding submodel_offset kind

@@ -15,92 +15,55 @@ loop-p-init c =
 
 pub overflow_cast-at : goal.overflow_cast-at
 overflow_cast-at c =
-    let sh = c.requires.0.shadowed in
-    let z = over-step c.loop-p.invariant.0 c.in-Some.ensures.steps in
-    let g = rw z.place at c.loop-p.invariant.1 in
-    let low = entering-low sh g in
-    omega (arith, sh.short, z.inside)
+    omega (arith, c.requires.0.shadowed.short, (over-step c.loop-p.invariant.0 c.in-Some.ensures.steps).inside)
 
 pub offset_bounds-at-i : goal.offset_bounds-at-i
 offset_bounds-at-i c =
-    let sh = c.requires.0.shadowed in
-    let z = over-step c.loop-p.invariant.0 c.in-Some.ensures.steps in
-    let g = rw z.place at c.loop-p.invariant.1 in
-    let low = entering-low sh g in
     omega arith
 
 pub bounds-at-i : goal.bounds-at-i
 bounds-at-i c =
-    let sh = c.requires.0.shadowed in
-    let z = over-step c.loop-p.invariant.0 c.in-Some.ensures.steps in
-    let g = rw z.place at c.loop-p.invariant.1 in
-    let low = entering-low sh g in
-    omega (arith, g.listing.long, c.requires.1.0)
+    let g = rw (over-step c.loop-p.invariant.0 c.in-Some.ensures.steps).place at c.loop-p.invariant.1 in
+    omega (arith, entering-low c.requires.0.shadowed g, g.listing.long, c.requires.1.0)
 
 pub overflow_add-p : goal.overflow_add-p
 overflow_add-p c =
-    let sh = c.requires.0.shadowed in
-    let z = over-step c.loop-p.invariant.0 c.in-Some.ensures.steps in
-    let g = rw z.place at c.loop-p.invariant.1 in
-    let low = entering-low sh g in
-    omega (arith, sh.short, z.inside)
+    omega (arith, c.requires.0.shadowed.short, (over-step c.loop-p.invariant.0 c.in-Some.ensures.steps).inside)
 
 pub overflow_mul-i : goal.overflow_mul-i
 overflow_mul-i c =
-    let sh = c.requires.0.shadowed in
     let z = over-step c.loop-p.invariant.0 c.in-Some.ensures.steps in
-    let g = rw z.place at c.loop-p.invariant.1 in
-    let low = entering-low sh g in
-    omega (arith, (field_room sh g z.inside).1)
+    omega (arith, (field_room c.requires.0.shadowed (rw z.place at c.loop-p.invariant.1) z.inside).1)
 
 pub put_bytes-requires : goal.put_bytes-requires
 put_bytes-requires c =
-    let sh = c.requires.0.shadowed in
     let z = over-step c.loop-p.invariant.0 c.in-Some.ensures.steps in
     let g = rw z.place at c.loop-p.invariant.1 in
-    let low = entering-low sh g in
-    let room = field_room sh g z.inside in
+    let room = field_room c.requires.0.shadowed g z.inside in
     (room.0, omega (arith, room.1, g.copying.long, c.requires.1.1.0))
 
 pub key_at-requires : goal.key_at-requires
 key_at-requires c =
-    let sh = c.requires.0.shadowed in
     let z = over-step c.loop-p.invariant.0 c.in-Some.ensures.steps in
-    let g = rw z.place at c.loop-p.invariant.1 in
-    let low = entering-low sh g in
-    (c.requires.0, walk-place sh g.walk z.inside)
+    (c.requires.0, walk-place c.requires.0.shadowed (rw z.place at c.loop-p.invariant.1).walk z.inside)
 
 pub offset_bounds-keys-i : goal.offset_bounds-keys-i
 offset_bounds-keys-i c =
-    let sh = c.requires.0.shadowed in
-    let z = over-step c.loop-p.invariant.0 c.in-Some.ensures.steps in
-    let g = rw z.place at c.loop-p.invariant.1 in
-    let low = entering-low sh g in
     omega arith
 
 pub bounds-keys-i : goal.bounds-keys-i
 bounds-keys-i c =
-    let sh = c.requires.0.shadowed in
-    let z = over-step c.loop-p.invariant.0 c.in-Some.ensures.steps in
-    let g = rw z.place at c.loop-p.invariant.1 in
-    let low = entering-low sh g in
-    omega (arith, g.keying.long, c.requires.1.1.1)
+    let g = rw (over-step c.loop-p.invariant.0 c.in-Some.ensures.steps).place at c.loop-p.invariant.1 in
+    omega (arith, entering-low c.requires.0.shadowed g, g.keying.long, c.requires.1.1.1)
 
 pub overflow_add-i : goal.overflow_add-i
 overflow_add-i c =
-    let sh = c.requires.0.shadowed in
-    let z = over-step c.loop-p.invariant.0 c.in-Some.ensures.steps in
-    let g = rw z.place at c.loop-p.invariant.1 in
-    let low = entering-low sh g in
     omega arith
 
 pub loop-p-preserved : goal.loop-p-preserved
 loop-p-preserved c =
-    let sh = c.requires.0.shadowed in
     let z = over-step c.loop-p.invariant.0 c.in-Some.ensures.steps in
-    let g = rw z.place at c.loop-p.invariant.1 in
-    let low = entering-low sh g in
-    (z.over, rw z.on (entering-one sh g c.requires.1.0 c.requires.1.1.0 c.requires.1.1.1 z.inside c.put_bytes.ensures c.key_at.ensures refl))
+    (z.over, rw z.on (entering-one c.requires.0.shadowed (rw z.place at c.loop-p.invariant.1) c.requires.1.0 c.requires.1.1.0 c.requires.1.1.1 z.inside c.put_bytes.ensures c.key_at.ensures refl))
 
 pub shape_of-at : goal.shape_of-at
 shape_of-at c = c.loop-p.invariant.1.listing.long

@@ -11,36 +11,19 @@ use Rattle.links.proofs.Linker.link_pointer.Goals as goal
 
 pub find-requires : goal.find-requires
 find-requires c =
-    let pre = c.requires in
     let R = recipe_of c.args.self.now.index in
-    let x = pre.0 in
     let p = c.args.h.place in
-    let i = x.placed in
-    let index = c.args.self.now.index in
-    let h = pointing-points R p pre.1.pointing in
-    let u = submodel-at R p i h pre.1.begins in
-    sought u (pointing-reads R p i index.formed h (pointing-filled R p pre.1.pointing)) (omega arith) (omega arith) (held_low index.short x)
+    let h = pointing-points R p c.requires.1.pointing in
+    sought (submodel-at R p c.requires.0.placed h c.requires.1.begins) (pointing-reads R p c.requires.0.placed c.args.self.now.index.formed h (pointing-filled R p c.requires.1.pointing)) (omega arith) (omega arith) (held_low c.args.self.now.index.short c.requires.0)
 
 pub returns-in_err-lower : goal.returns-in_err-lower
 returns-in_err-lower c =
-    let pre = c.requires in
     let R = recipe_of c.args.self.now.index in
-    let x = pre.0 in
     let p = c.args.h.place in
-    let i = x.placed in
-    let index = c.args.self.now.index in
-    let h = pointing-points R p pre.1.pointing in
-    let u = submodel-at R p i h pre.1.begins in
-    c.from_residual.ensures ∙ (sym (ap (option_map (λ y. links 0 y 0)) c.in_err-lower.was) ∙ pointer-links R p x.held u c.find.ensures pre.1)
+    c.from_residual.ensures ∙ (sym (ap (option_map (λ y. links 0 y 0)) c.in_err-lower.was) ∙ pointer-links R p c.requires.0.held (submodel-at R p c.requires.0.placed (pointing-points R p c.requires.1.pointing) c.requires.1.begins) c.find.ensures c.requires.1)
 
 pub returns : goal.returns
 returns c =
-    let pre = c.requires in
     let R = recipe_of c.args.self.now.index in
-    let x = pre.0 in
     let p = c.args.h.place in
-    let i = x.placed in
-    let index = c.args.self.now.index in
-    let h = pointing-points R p pre.1.pointing in
-    let u = submodel-at R p i h pre.1.begins in
-    sym (ap (option_map (λ y. links 0 y 0)) c.in_ok-lower.was) ∙ pointer-links R p x.held u c.find.ensures pre.1
+    sym (ap (option_map (λ y. links 0 y 0)) c.in_ok-lower.was) ∙ pointer-links R p c.requires.0.held (submodel-at R p c.requires.0.placed (pointing-points R p c.requires.1.pointing) c.requires.1.begins) c.find.ensures c.requires.1

@@ -7,27 +7,18 @@ use Rattle.links.proofs.Linker.link_port.Goals as goal
 
 pub field_at-requires : goal.field_at-requires
 field_at-requires c =
-    let pre = c.requires in
     let R = recipe_of c.args.self.now.index in
-    let x = pre.0 in
     let p = c.args.h.place in
-    let u = submodel-at R p x.placed (port-points R p pre.1.0) (port-begins R p pre.1.1) in
-    u.room
+    (submodel-at R p c.requires.0.placed (port-points R p c.requires.1.0) (port-begins R p c.requires.1.1)).room
 
 pub link_own_port-requires : goal.link_own_port-requires
 link_own_port-requires c =
-    let pre = c.requires in
     let R = recipe_of c.args.self.now.index in
-    let x = pre.0 in
     let p = c.args.h.place in
-    let u = submodel-at R p x.placed (port-points R p pre.1.0) (port-begins R p pre.1.1) in
-    (x, (pre.1.0, (pre.1.1, blank-at u c.field_at.ensures c.is_blank.ensures c.if-is_blank.true)))
+    (c.requires.0, (c.requires.1.0, (c.requires.1.1, blank-at (submodel-at R p c.requires.0.placed (port-points R p c.requires.1.0) (port-begins R p c.requires.1.1)) c.field_at.ensures c.is_blank.ensures c.if-is_blank.true)))
 
 pub link_pointer-requires : goal.link_pointer-requires
 link_pointer-requires c =
-    let pre = c.requires in
     let R = recipe_of c.args.self.now.index in
-    let x = pre.0 in
     let p = c.args.h.place in
-    let u = submodel-at R p x.placed (port-points R p pre.1.0) (port-begins R p pre.1.1) in
-    (x, port-unowned R p pre.1.0 pre.1.1 (blank-at u c.field_at.ensures c.is_blank.ensures c.if-is_blank.false))
+    (c.requires.0, port-unowned R p c.requires.1.0 c.requires.1.1 (blank-at (submodel-at R p c.requires.0.placed (port-points R p c.requires.1.0) (port-begins R p c.requires.1.1)) c.field_at.ensures c.is_blank.ensures c.if-is_blank.false))

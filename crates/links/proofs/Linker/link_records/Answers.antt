@@ -20,55 +20,36 @@ loop-p-init c =
 
 pub cell-requires : goal.cell-requires
 cell-requires c =
-    let R = recipe_of c.args.self.now.index in
-    let sh = c.requires.shadowed in
     let z = over-step c.loop-p.invariant.0 c.in-Some.ensures.steps in
-    let g = rw z.place at c.loop-p.invariant.1 in
-    omega (arith, walk-room sh g.0 z.inside)
+    omega (arith, walk-room c.requires.shadowed (rw z.place at c.loop-p.invariant.1).0 z.inside)
 
 pub link_record-requires : goal.link_record-requires
 link_record-requires c =
-    let R = recipe_of c.args.self.now.index in
-    let sh = c.requires.shadowed in
     let z = over-step c.loop-p.invariant.0 c.in-Some.ensures.steps in
     let g = rw z.place at c.loop-p.invariant.1 in
-    let i = walk-place sh g.0 z.inside in
+    let i = walk-place c.requires.shadowed g.0 z.inside in
     record { placed = i; held = c.cell.ensures.0 ∙ (g.0.kept.as-was _ 0 i (omega arith) refl ∙ c.requires.held _ i) }
 
 pub returns-in_default : goal.returns-in_default
 returns-in_default c =
     let R = recipe_of c.args.self.now.index in
-    let sh = c.requires.shadowed in
     let z = over-step c.loop-p.invariant.0 c.in-Some.ensures.steps in
-    let g = rw z.place at c.loop-p.invariant.1 in
-    (sym (fault-five R (going-hit (here R _ _ sh.whole g.1.1 z.inside) (links-none R _ c.link_record.ensures c.in_default.is))), λ y. some-none y)
+    (sym (fault-five R (going-hit (here R _ _ c.requires.shadowed.whole (rw z.place at c.loop-p.invariant.1).1.1 z.inside) (links-none R _ c.link_record.ensures c.in_default.is))), λ y. some-none y)
 
 pub set_cell-requires : goal.set_cell-requires
 set_cell-requires c =
-    let R = recipe_of c.args.self.now.index in
-    let sh = c.requires.shadowed in
     let z = over-step c.loop-p.invariant.0 c.in-Some.ensures.steps in
-    let g = rw z.place at c.loop-p.invariant.1 in
-    (omega (arith, walk-room sh g.0 z.inside), c.wide.ensures.1)
+    (omega (arith, walk-room c.requires.shadowed (rw z.place at c.loop-p.invariant.1).0 z.inside), c.wide.ensures.1)
 
 pub set_cell-requires-in-loop-p : goal.set_cell-requires-in-loop-p
 set_cell-requires-in-loop-p c =
-    let R = recipe_of c.args.self.now.index in
-    let sh = c.requires.shadowed in
     let z = over-step c.loop-p.invariant.0 c.in-Some.ensures.steps in
-    let g = rw z.place at c.loop-p.invariant.1 in
-    let k = simp length-set at (ap length c.set_cell.ensures) in
-    (omega (arith, walk-room sh g.0 z.inside, k), c.wide-in-loop-p.ensures.1)
+    (omega (arith, walk-room c.requires.shadowed (rw z.place at c.loop-p.invariant.1).0 z.inside, (simp length-set at (ap length c.set_cell.ensures))), c.wide-in-loop-p.ensures.1)
 
 pub set_cell-requires-in-loop-p-2 : goal.set_cell-requires-in-loop-p-2
 set_cell-requires-in-loop-p-2 c =
-    let R = recipe_of c.args.self.now.index in
-    let sh = c.requires.shadowed in
     let z = over-step c.loop-p.invariant.0 c.in-Some.ensures.steps in
-    let g = rw z.place at c.loop-p.invariant.1 in
-    let k = simp length-set at (ap length c.set_cell.ensures) in
-    let m = simp length-set at (ap length c.set_cell-in-loop-p.ensures) in
-    (omega (arith, walk-room sh g.0 z.inside, k, m), c.wide-in-loop-p-2.ensures.1)
+    (omega (arith, walk-room c.requires.shadowed (rw z.place at c.loop-p.invariant.1).0 z.inside, (simp length-set at (ap length c.set_cell.ensures)), (simp length-set at (ap length c.set_cell-in-loop-p.ensures))), c.wide-in-loop-p-2.ensures.1)
 
 pub loop-p-preserved : goal.loop-p-preserved
 loop-p-preserved c =
@@ -86,9 +67,8 @@ shape_of-t c = c.loop-p.invariant.1.0.kept.long
 
 pub returns : goal.returns
 returns c =
-    let R = recipe_of c.args.self.now.index in
     let l = over-end c.loop-p.invariant.0 c.in-None.ensures.steps in
     let g = c.loop-p.invariant.1 in
-    let none = fault-five R (going_end g.1.1 l) in
+    let none = fault-five (recipe_of c.args.self.now.index) (going_end g.1.1 l) in
     let f = filling-end g.1.0 (walk_end c.requires.shadowed g.0 l) in
     (sym none, λ z. (record { numbered = numbered-over g.0.kept refl c.requires; declared = none; uppers = f 3 (inr (inr (inl refl))); lowers = f 4 (inr (inl refl)) }, f 5 (inl refl)))

@@ -15,10 +15,9 @@ loop-p-init c =
 
 pub name_target-requires : goal.name_target-requires
 name_target-requires c =
-    let sh = c.requires.0.numbered.shadowed in
     let z = over-step c.loop-p.invariant.0 c.in-Some.ensures.steps in
     let g = rw z.place at c.loop-p.invariant.1 in
-    (pointed-over g.0.kept c.requires.0, walk-place sh g.0 z.inside)
+    (pointed-over g.0.kept c.requires.0, walk-place c.requires.0.numbered.shadowed g.0 z.inside)
 
 pub loop-p-preserved : goal.loop-p-preserved
 loop-p-preserved c =
@@ -35,7 +34,6 @@ shape_of-t c = c.loop-p.invariant.1.0.kept.long
 pub returns : goal.returns
 returns c =
     let x = c.args.self.now in
-    let l = over-end c.loop-p.invariant.0 c.in-None.ensures.steps in
     let g = c.loop-p.invariant.1 in
-    let f = filling-end g.1 (walk_end c.requires.0.numbered.shadowed g.0 l) 5 (inl refl) in
+    let f = filling-end g.1 (walk_end c.requires.0.numbered.shadowed g.0 (over-end c.loop-p.invariant.0 c.in-None.ensures.steps)) 5 (inl refl) in
     (linked-end x.index.formed x.once c.requires.0 c.requires.1 g.0.kept f, unpaired-end x.index.formed x.once c.requires.0 c.requires.1 g.0.kept f)

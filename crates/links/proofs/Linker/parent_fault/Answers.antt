@@ -10,40 +10,19 @@ use Rattle.links.proofs.Linker.parent_fault.Goals as goal
 
 pub field_at-requires : goal.field_at-requires
 field_at-requires c =
-    let pre = c.requires in
-    let R = recipe_of c.args.self.now.index in
-    let p = c.args.p in
-    let g = parent-at R p pre.0 pre.1.0 pre.1.1.0 in
-    let k = class-is R p pre.0 pre.1.0 pre.1.1.0 in
-    let ea = pre.1.1.1 in
-    g.room
+    (parent-at (recipe_of c.args.self.now.index) c.args.p c.requires.0 c.requires.1.0 c.requires.1.1.0).room
 
 pub returns-in_default : goal.returns-in_default
 returns-in_default c =
-    let pre = c.requires in
     let R = recipe_of c.args.self.now.index in
-    let p = c.args.p in
-    let g = parent-at R p pre.0 pre.1.0 pre.1.1.0 in
-    let k = class-is R p pre.0 pre.1.0 pre.1.1.0 in
-    let ea = pre.1.1.1 in
-    parent-missing R p g k ea c.in_default.is (c.is_blank-b.ensures ∙ ap is_blank c.field_at.ensures) c.parent_may_be_blank.ensures
+    parent-missing R c.args.p (parent-at R c.args.p c.requires.0 c.requires.1.0 c.requires.1.1.0) (class-is R c.args.p c.requires.0 c.requires.1.0 c.requires.1.1.0) c.requires.1.1.1 c.in_default.is (c.is_blank-b.ensures ∙ ap is_blank c.field_at.ensures) c.parent_may_be_blank.ensures
 
 pub bounds-s-q : goal.bounds-s-q
 bounds-s-q c =
-    let pre = c.requires in
     let R = recipe_of c.args.self.now.index in
-    let p = c.args.p in
-    let g = parent-at R p pre.0 pre.1.0 pre.1.1.0 in
-    let k = class-is R p pre.0 pre.1.0 pre.1.1.0 in
-    let ea = pre.1.1.1 in
-    omega (arith, c.wide-q.ensures.0, parent-room R p g k ea c.in-Some.is)
+    omega (arith, c.wide-q.ensures.0, parent-room R c.args.p (parent-at R c.args.p c.requires.0 c.requires.1.0 c.requires.1.1.0) (class-is R c.args.p c.requires.0 c.requires.1.0 c.requires.1.1.0) c.requires.1.1.1 c.in-Some.is)
 
 pub returns : goal.returns
 returns c =
-    let pre = c.requires in
     let R = recipe_of c.args.self.now.index in
-    let p = c.args.p in
-    let g = parent-at R p pre.0 pre.1.0 pre.1.1.0 in
-    let k = class-is R p pre.0 pre.1.0 pre.1.1.0 in
-    let ea = pre.1.1.1 in
-    parent-there R p g k ea c.in-Some.is c.wide-q.ensures.0 c.parent_allowed.ensures
+    parent-there R c.args.p (parent-at R c.args.p c.requires.0 c.requires.1.0 c.requires.1.1.0) (class-is R c.args.p c.requires.0 c.requires.1.0 c.requires.1.1.0) c.requires.1.1.1 c.in-Some.is c.wide-q.ensures.0 c.parent_allowed.ensures

@@ -19,8 +19,7 @@ bounds-self-i c = low c.args.self.now _ c.find.ensures c.in_ok-i.was
 
 pub bounds-self-p : goal.bounds-self-p
 bounds-self-p c =
-    let i = sought-in c.args.self.now c.requires.once c.requires.sought c.tag.ensures.0 c.field_at-f.ensures c.key-k.ensures c.find.ensures c.in_ok-i.was in
-    omega (arith, place-room (R c.args.self.now) _ i)
+    omega (arith, place-room (R c.args.self.now) _ (sought-in c.args.self.now c.requires.once c.requires.sought c.tag.ensures.0 c.field_at-f.ensures c.key-k.ensures c.find.ensures c.in_ok-i.was))
 
 pub returns-then-self-p : goal.returns-then-self-p
 returns-then-self-p c =
