@@ -30,11 +30,12 @@ use Rattle.tree.proofs.Nodes.{parent_in}
 use Rattle.targets.proofs.Resolving.{not-zero}
 use Rattle.references.specs.Ends.{end_of}
 use Rattle.marks.specs.Marks.{chain_end, is_gone, survivors}
-use Rattle.elements.specs.Steps.{next_of}
+use Rattle.tree.specs.Steps.{next_of}
 use Rattle.elements.specs.Columns.{ElementRows}
 use Rattle.elements.proofs.Elements.{element-held}
 use Rattle.flat_names.specs.Prefixes.{flat_name}
-use Rattle.compose.specs.Composed.{Composed}
+use Rattle.flat_names.specs.Rows.{Naming}
+use Rattle.composer.specs.Fates.{Writable}
 use Rattle.composer.specs.Flat.{flat_field, flat_record, flat_reference}
 use Rattle.composer.specs.declared.Site.{Site}
 use Rattle.composer.specs.Writing.{SiteInTree, element_at, linked_site, node_at, numbered_site, row_site, site_of}
@@ -55,6 +56,9 @@ module _ (s : Recipe) (out : List ℕ) (at : ℕ) where
 -- one of the recipe whose prefixes are filled is one of s
 pub field-there : {r s : Recipe} → r ≡ s → (o : Option Site) (out : List ℕ) (at : ℕ) {out' : List ℕ} → out' ≡ sets out at (flat_field r (site_of r o)) → out' ≡ sets out at (flat_field s (site_of s o))
 field-there e o out at h = h ∙ ap (λ (r : Recipe). sets out at (flat_field r (site_of r o))) e
+
+pub field-requires : {r s : Recipe} → Naming s → r ≡ s → (o : Option Site) (at : ℕ) {n : ℕ} → SiteInTree s o → at + flat_width s.width ≤ n → Naming r × (SiteInTree r o × (at + flat_width r.width ≤ n))
+field-requires n e o at i l = rw e (n, (i, l))
 
 -- a kind byte and three fields, stored one behind the other, are a record
 four-stores : (out A B C : List ℕ) (at k f : ℕ) → length A ≡ f → length B ≡ f
@@ -134,15 +138,18 @@ module _ {s : Recipe} {el : List ℕ} (h₇ : fault₇ s ≡ None) (R : ElementR
           (λ y n. rw (r, end-filled y n) (own-tree (number s y) (by.element-is s h₇ y (inside y n)).0 refl))
 
 -- ---- the element of number e, a survivor: its parent, and the end of the chain from its reference
-module _ {s : Recipe} {t inst el : List ℕ} {insts elems : ℕ} (C : Composed s t inst el insts elems) where
+module _ {s : Recipe} {t el : List ℕ} (W : Writable s t el) where
   h₃ : fault₃ s ≡ None
-  h₃ = C.targeted.planted.measured.linked.row₃
+  h₃ = W.naming.formed
 
   h₅ : fault₅ s ≡ None
-  h₅ = C.targeted.planted.measured.linked.row₅
+  h₅ = W.row₅
 
   h₇ : fault₇ s ≡ None
-  h₇ = C.targeted.planted.row₇
+  h₇ = W.naming.small
+
+  two : 2 ≤ s.width
+  two = omega (arith, W.naming.wide)
 
   module _ {e : ℕ} (le : e < length (tree_elements s)) where
     abbrev x : Node
@@ -153,15 +160,15 @@ module _ {s : Recipe} {t inst el : List ℕ} {insts elems : ℕ} (C : Composed s
 
     module _ {y : Site} (r : y ≡ row_site el e) where
       place-is : y.place ≡ x.place
-      place-is = by.record_is h₇ C.elements e le (ap (λ (z : Site). z.place) r)
+      place-is = by.record_is h₇ W.elements e le (ap (λ (z : Site). z.place) r)
 
       pub parent-room : y.place + 13 ≤ length t
-      parent-room = omega (arith, place-is, cells-room C.targeted.planted.measured.linked.numbered.shadowed x.place (element-held s x x-tree).placed)
+      parent-room = omega (arith, place-is, cells-room W.shadowed x.place (element-held s x x-tree).placed)
 
       -- its parent
       module _ {o : Option Site} (h : o ≡ linked_site y.inst (get_or t (y.place + 3) 0)) where
         parent-link : get_or t (y.place + 3) 0 ≡ unwrap_or (element_in s x.place (parent_field s x.place)) 0
-        parent-link = let d = element-held s x x-tree in ap (λ (j : ℕ). get_or t (j + 3) 0) place-is ∙ C.targeted.planted.measured.linked.parents x.place d.placed d.passes
+        parent-link = let d = element-held s x x-tree in ap (λ (j : ℕ). get_or t (j + 3) 0) place-is ∙ W.parents x.place d.placed d.passes
 
         no-parent : element_in s x.place (parent_field s x.place) ≡ None → o ≡ None
         unfolding linked_site
@@ -175,7 +182,7 @@ module _ {s : Recipe} {t inst el : List ℕ} {insts elems : ℕ} (C : Composed s
             h ∙ rw (is, ne_eqb k 0 (not-zero s (holder s x.place) k in-k)) refl
 
         path-there : get_or (instances s) y.inst [] ≡ x.path
-        path-there = by.path-is h₇ C.elements e le (ap (λ (z : Site). z.inst) r)
+        path-there = by.path-is h₇ W.elements e le (ap (λ (z : Site). z.inst) r)
 
         pub parent-site : site_of s o ≡ parent_of s x
         unfolding site_of parent_of
@@ -189,7 +196,7 @@ module _ {s : Recipe} {t inst el : List ℕ} {insts elems : ℕ} (C : Composed s
         parent-tree =
             by-option (element_in s x.place (parent_field s x.place))
             (λ n. rw (no-parent n) tt)
-            (λ k n. rw (a-parent k n) (by.instance-low h₇ C.elements e le (ap (λ (z : Site). z.inst) r), parent_in s x _ x-tree (sym parent-site ∙ ap (site_of s) (a-parent k n))))
+            (λ k n. rw (a-parent k n) (by.instance-low h₇ W.elements e le (ap (λ (z : Site). z.inst) r), parent_in s x _ x-tree (sym parent-site ∙ ap (site_of s) (a-parent k n))))
 
     -- the end of the chain from its reference
     module _ (alive : is_gone s x ≡ false) where
@@ -198,7 +205,7 @@ module _ {s : Recipe} {t inst el : List ℕ} {insts elems : ℕ} (C : Composed s
       x-survives = keep-in (λ y. not (is_gone s y)) (tree_elements s) x x-tree (ap not alive)
 
       end_is : get_or el (5 * e + 4) 0 ≡ end_of s x
-      end_is = sym (by.at-number h₇ C.elements e le 4) ∙ C.ends x x-survives
+      end_is = sym (by.at-number h₇ W.elements e le 4) ∙ W.ends x x-survives
 
       -- it is 0, or one more than the number of that end
       end_none : flat_reference s x ≡ None → get_or el (5 * e + 4) 0 ≡ 0
@@ -219,28 +226,27 @@ module _ {s : Recipe} {t inst el : List ℕ} {insts elems : ℕ} (C : Composed s
           end_is ∙ end-number r.0 r.1 ∙ ap (λ (v : Node). number s v + 1) (sym r.2)
 
       end-inside : (y : Node) → flat_reference s x ≡ Some y → In y (tree_elements s)
-      end-inside y n = reference-end-in s (omega (arith, C.targeted.planted.measured.linked.numbered.shadowed.wide)) h₃ h₇ h₅ x y x-tree n
+      end-inside y n = reference-end-in s two h₃ h₇ h₅ x y x-tree n
 
       pub reference-room : 5 * get_or el (5 * e + 4) 0 ≤ length el
-      reference-room = end-room h₇ C.elements end-inside end_none end-some
+      reference-room = end-room h₇ W.elements end-inside end_none end-some
 
       module _ {o : Option Site} (r : o ≡ numbered_site el (get_or el (5 * e + 4) 0)) where
         pub reference-site : site_of s o ≡ flat_reference s x
-        reference-site = end-site h₇ C.elements end-inside end_none end-some r
+        reference-site = end-site h₇ W.elements end-inside end_none end-some r
 
         pub reference-tree : SiteInTree s o
-        reference-tree = end-tree h₇ C.elements end-inside end_none end-some r
+        reference-tree = end-tree h₇ W.elements end-inside end_none end-some r
 
     -- ---- its record
-    pub record-written : {q f : ℕ} (out : List ℕ) (at : ℕ) {out₁ out₂ out₃ : List ℕ} {a b c : Option Node} → q ≡ get_or el (5 * e + 0) 0 → f ≡ flat_width s.width
+    pub record-written : {q k f : ℕ} (out : List ℕ) (at : ℕ) {out₁ out₂ out₃ : List ℕ} {a b c : Option Node} → q ≡ get_or el (5 * e + 0) 0 → k ≡ get_or s.bytes (q + 1 + s.width) 0 → f ≡ flat_width s.width
         → a ≡ Some x → b ≡ parent_of s x → c ≡ flat_reference s x
-        → out₁ ≡ sets (set out at (get_or s.bytes (q + 1 + s.width) 0)) (at + 1) (flat_field s a)
+        → out₁ ≡ sets (set out at k) (at + 1) (flat_field s a)
         → out₂ ≡ sets out₁ (at + 1 + f) (flat_field s b)
         → out₃ ≡ sets out₂ (at + 1 + f + f) (flat_field s c)
         → out₃ ≡ sets out at (flat_record s x)
     unfolding flat_record flat_width
-    record-written {q} {f} out at {out₁} {out₂} {out₃} hq hf ha hb hc o₁ o₂ o₃ =
-        let two : 2 ≤ s.width = omega (arith, C.targeted.planted.measured.linked.numbered.shadowed.wide) in
+    record-written {q} {k} {f} out at {out₁} {out₂} {out₃} hq hk hf ha hb hc o₁ o₂ o₃ =
         let A = flat_field s (Some x) in
         let B = flat_field s (parent_of s x) in
         let D = flat_field s (flat_reference s x) in
@@ -248,6 +254,6 @@ module _ {s : Recipe} {t inst el : List ℕ} {insts elems : ℕ} (C : Composed s
         let lb : length B ≡ f = parent-field s two h₃ h₇ h₅ x x-tree ∙ sym hf in
         o₃
         ∙ ap (λ (y : Option Node). sets out₂ (at + 1 + f + f) (flat_field s y)) hc
-        ∙ ap (λ (o : List ℕ). sets o (at + 1 + f + f) D) (o₂ ∙ ap (λ (y : Option Node). sets out₁ (at + 1 + f) (flat_field s y)) hb ∙ ap (λ (o : List ℕ). sets o (at + 1 + f) B) (o₁ ∙ ap (λ (y : Option Node). sets (set out at (get_or s.bytes (q + 1 + s.width) 0)) (at + 1) (flat_field s y)) ha))
-        ∙ four-stores out A B D at (get_or s.bytes (q + 1 + s.width) 0) f la lb
-        ∙ ap (λ (k : ℕ). sets out at (k ∷ (A ++ B ++ D))) (class-is h₇ C.elements e le hq)
+        ∙ ap (λ (o : List ℕ). sets o (at + 1 + f + f) D) (o₂ ∙ ap (λ (y : Option Node). sets out₁ (at + 1 + f) (flat_field s y)) hb ∙ ap (λ (o : List ℕ). sets o (at + 1 + f) B) (o₁ ∙ ap (λ (y : Option Node). sets (set out at k) (at + 1) (flat_field s y)) ha))
+        ∙ four-stores out A B D at k f la lb
+        ∙ ap (λ (k : ℕ). sets out at (k ∷ (A ++ B ++ D))) (hk ∙ class-is h₇ W.elements e le hq)

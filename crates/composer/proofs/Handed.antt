@@ -1,7 +1,6 @@
--- What composing hands on is what the room, the prefixes and a field ask.
+-- What composing hands on is what the survivors, the writer, the room and the prefixes ask.
 -- Assumes nothing.
-use Rattle.std.specs.Prelude.{Option}
-use Prim.Native.Nat.{ℕ, ◌*◌, ◌+◌, ◌≤◌}
+use Prim.Native.Nat.{ℕ, ◌*◌, ◌≤◌}
 use native.Mathlib.Omega.{arith}
 use native.Mathlib.Nat.{mul-le-mul}
 use mathlib.Core.Path.{◌≡◌}
@@ -14,17 +13,20 @@ use Rattle.recipe.specs.Records.{Recipe}
 use Rattle.tree.specs.Tree.{tree_elements}
 use Rattle.compose.specs.Composed.{Composed}
 use Rattle.marks.specs.Marks.{is_gone, survivors}
-use Rattle.flat_names.specs.Rows.{Naming, row_width}
+use Rattle.flat_names.specs.Rows.{row_width}
 use Rattle.flat_names.proofs.Filling.{naming}
 use Rattle.flat_names.proofs.Puts.{rows-room}
-use Rattle.composer.specs.declared.Site.{Site}
-use Rattle.composer.specs.Writing.{SiteInTree}
+use Rattle.composer.specs.Fates.{Fated, Writable}
 use Rattle.elements.proofs.Elements.{elements-few}
 
 module _ {s : Recipe} {t inst el : List ℕ} {insts elems : ℕ} (C : Composed s t inst el insts elems) where
-  -- a field, of the recipe whose prefixes are filled
-  pub field-requires : {r : Recipe} → r ≡ s → (o : Option Site) (at : ℕ) {n : ℕ} → SiteInTree s o → at + flat_width s.width ≤ n → Naming r × (SiteInTree r o × (at + flat_width r.width ≤ n))
-  field-requires e o at i l = rw e (naming C.targeted.planted, (i, l))
+  pub fated : Fated s el elems
+  fated = record { row₇ = C.targeted.planted.row₇; count = C.count; room = C.elements.room; gones = C.gones }
+
+  pub writable : Writable s t el
+  writable =
+      let L = C.targeted.planted.measured.linked in
+      record { naming = naming C.targeted.planted; row₅ = L.row₅; shadowed = L.numbered.shadowed; parents = L.parents; elements = C.elements; ends = C.ends }
 
   pub narrow : s.width ≤ 64
   narrow = C.targeted.planted.measured.linked.numbered.shadowed.narrow

@@ -14,7 +14,7 @@ use Rattle.recipe.specs.Reading.{fault₃, fault₅}
 use Rattle.tree.specs.Faults.{fault₇}
 use Rattle.tree.specs.Tree.{tree_elements}
 use Rattle.marks.specs.Marks.{is_gone, survivors}
-use Rattle.compose.specs.Composed.{Composed}
+use Rattle.composer.specs.Fates.{Fated, Writable}
 use Rattle.composer.specs.Flat.{flat, flat_record}
 use Rattle.composer.specs.Surviving.{surviving}
 use Rattle.composer.specs.Writing.{element_at}
@@ -27,25 +27,25 @@ use Rattle.composer.proofs.Writing.{WriteLoop, write-end, write-on, write-room, 
 abbrev pub Flattening : Recipe → List ℕ → ℕ → List ℕ → List ℕ → List ℕ → ℕ → Type 0
 Flattening s el elems out₀ out left p = Staying el elems left × WriteLoop (flat_record s) (survivors s) out₀ out (map (element_at s) left) p
 
-module _ {s : Recipe} {t inst el : List ℕ} {insts elems : ℕ} (C : Composed s t inst el insts elems) where
+module _ {s : Recipe} {t el : List ℕ} {elems : ℕ} (F : Fated s el elems) (W : Writable s t el) where
   h₃ : fault₃ s ≡ None
-  h₃ = C.targeted.planted.measured.linked.row₃
+  h₃ = W.naming.formed
 
   h₅ : fault₅ s ≡ None
-  h₅ = C.targeted.planted.measured.linked.row₅
+  h₅ = W.row₅
 
   h₇ : fault₇ s ≡ None
-  h₇ = C.targeted.planted.row₇
+  h₇ = F.row₇
 
   two : 2 ≤ s.width
-  two = omega (arith, C.targeted.planted.measured.linked.numbered.shadowed.wide)
+  two = omega (arith, W.naming.wide)
 
   flat-room : {n : ℕ} → flat_length s.width * length (survivors s) ≤ n → length (flat s) ≤ n
   flat-room room = omega (arith, room, flat-bytes s two h₃ h₇ h₅)
 
   pub flat-start : (out₀ : List ℕ) → flat_length s.width * length (survivors s) ≤ length out₀ → {left : List ℕ} → left ≡ surviving el 0 elems → Flattening s el elems out₀ out₀ left 0
   unfolding flat
-  flat-start out₀ room e = rw e (stay-start el elems, rw (survivors-are C) (write-start (flat_record s) (survivors s) out₀ (flat-room room)))
+  flat-start out₀ room e = rw e (stay-start el elems, rw (survivors-are F) (write-start (flat_record s) (survivors s) out₀ (flat-room room)))
 
   pub flat-end : {out₀ out left : List ℕ} {p : ℕ} → Flattening s el elems out₀ out left p → flat_length s.width * length (survivors s) ≤ length out₀ → left ≡ [] → out ≡ flat s ++ drop (length (flat s)) out₀
   unfolding flat
@@ -56,10 +56,10 @@ module _ {s : Recipe} {t inst el : List ℕ} {insts elems : ℕ} (C : Composed s
     turn-low = (stay-here g.0 y).0
 
     pub turn-below : e < length (tree_elements s)
-    turn-below = omega (arith, turn-low, C.count)
+    turn-below = omega (arith, turn-low, F.count)
 
     pub turn-alive : is_gone s (element_at s e) ≡ false
-    turn-alive = survives-at C turn-low (stay-here g.0 y).1
+    turn-alive = survives-at F turn-low (stay-here g.0 y).1
 
     -- its record
     long : length (flat_record s (element_at s e)) ≡ flat_length s.width

@@ -1,11 +1,11 @@
 -- The survivors by their numbers: which is the next of those that are left, what a loop over them has at each turn, and that they are the survivors of the recipe.
 -- Assumes nothing.
 use Rattle.std.specs.Prelude.{MatchOption, None, Option, Some}
-use Prim.Native.Nat.{◌*◌, ◌+◌, ◌-◌, ◌<◌, ◌≤◌, suc, zero, ℕ}
+use Prim.Native.Nat.{◌*◌, ◌+◌, ◌-◌, ◌/◌, ◌<◌, ◌≤◌, suc, zero, ℕ}
 use borrow.Author.Tests.{eqb-true}
 use lib.Dec.{eqb}
-use lib.ListN.{drop, drop_of_length-le, get_or, length, length-map}
-use lib.Seq.{drop-cons}
+use lib.ListN.{drop, drop_of_length-le, get_or, length, length-map, take}
+use lib.Seq.{drop-cons, get_or-take, length-take-le}
 use mathlib.Core.Bool.{Bool, cond, false, not, true}
 use mathlib.Core.List.{List, [], ◌∷◌, map}
 use mathlib.Core.Logic.{inl, inr}
@@ -17,13 +17,12 @@ use Rattle.names.specs.Lists.{In, keep}
 use Rattle.names.proofs.Lists.{in-keep, keep-length, keep-off, keep-on}
 use Rattle.names.proofs.Tests.{by_cases, three}
 use Rattle.recipe.specs.Records.{Recipe}
-use Rattle.tree.specs.Faults.{fault₇}
 use Rattle.tree.specs.Numbers.{run}
 use Rattle.tree.specs.Tree.{node, tree_elements}
 use Rattle.tree.proofs.Numbering.{run_length}
 use Rattle.marks.specs.Marks.{is_gone, survivors}
-use Rattle.compose.specs.Composed.{Composed}
 use Rattle.elements.proofs.Elements.{elements-few}
+use Rattle.composer.specs.Fates.{Fated}
 use Rattle.composer.specs.Surviving.{surviving}
 use Rattle.composer.specs.Writing.{element_at}
 use Rattle.composer.proofs.ByNumber.{element-in, element-number}
@@ -104,21 +103,18 @@ run_drop : {A : Type 0} (d : A) (xs : List A) (n k : ℕ) → k + n ≡ length x
 run_drop d xs zero k h = sym (drop_of_length-le xs (omega arith))
 run_drop d xs (suc n) k h = ap (λ ys. get_or xs k d ∷ ys) (run_drop d xs n (suc k) (omega arith)) ∙ sym (drop-cons xs k d (omega arith))
 
-module _ {s : Recipe} {t inst el : List ℕ} {insts elems : ℕ} (C : Composed s t inst el insts elems) where
-  h₇ : fault₇ s ≡ None
-  h₇ = C.targeted.planted.row₇
-
+module _ {s : Recipe} {el : List ℕ} {elems : ℕ} (F : Fated s el elems) where
   pub fates-few : elems ≤ 1024
-  fates-few = omega (arith, C.count, elements-few s h₇)
+  fates-few = omega (arith, F.count, elements-few s F.row₇)
 
   module _ {e : ℕ} (l : e < elems) where
     pub fate-room : 5 * e + 5 ≤ length el
-    fate-room = omega (arith, C.count, C.elements.room)
+    fate-room = omega (arith, F.count, F.room)
 
     fate : get_or el (5 * e + 2) 0 ≡ cond (is_gone s (element_at s e)) 1 0
     fate =
-        let k : e < length (tree_elements s) = omega (arith, C.count) in
-        ap (λ (n : ℕ). get_or el (5 * n + 2) 0) (sym (element-number s h₇ e k)) ∙ C.gones (element_at s e) (element-in s h₇ e k)
+        let k : e < length (tree_elements s) = omega (arith, F.count) in
+        ap (λ (n : ℕ). get_or el (5 * n + 2) 0) (sym (element-number s F.row₇ e k)) ∙ F.gones (element_at s e) (element-in s F.row₇ e k)
 
     pub survives-at : get_or el (5 * e + 2) 0 ≡ 0 → is_gone s (element_at s e) ≡ false
     survives-at z = by_cases (is_gone s (element_at s e)) (λ b. absurd (let k : 1 ≡ 0 = sym (fate ∙ rw b) ∙ z in omega arith)) (λ b. b)
@@ -134,10 +130,20 @@ module _ {s : Recipe} {t inst el : List ℕ} {insts elems : ℕ} (C : Composed s
   survivors-are =
       ap (map (element_at s)) (sym (keep_same (λ e. not (is_gone s (element_at s e))) (λ e. eqb (get_or el (5 * e + 2) 0) 0) (run 0 (elems - 0)) (λ e i. same-test (omega (arith, (in_run 0 (elems - 0) e i).1)))))
       ∙ sym (keep-map (element_at s) (λ x. not (is_gone s x)) (run 0 (elems - 0)))
-      ∙ ap (keep (λ x. not (is_gone s x))) (run_drop (node [] 0) (tree_elements s) (elems - 0) 0 (omega (arith, C.count)))
+      ∙ ap (keep (λ x. not (is_gone s x))) (run_drop (node [] 0) (tree_elements s) (elems - 0) 0 (omega (arith, F.count)))
 
   pub survivors-counted : length (surviving el 0 elems) ≡ length (survivors s)
   survivors-counted = sym (length-map (surviving el 0 elems) (element_at s)) ∙ ap length survivors-are
+
+-- counted of a recipe, and of the same by another name
+pub counted : {r s : Recipe} {k : ℕ} → k ≡ length (survivors r) → r ≡ s → k ≡ length (survivors s)
+counted h e = h ∙ ap (λ (s : Recipe). length (survivors s)) e
+
+-- the rows of the first n elements alone say as much
+pub rows-alone : (el : List ℕ) (n : ℕ) → 5 * n ≤ length el → surviving (take (5 * n) el) 0 (length (take (5 * n) el) / 5) ≡ surviving el 0 n
+rows-alone el n h =
+    let k : length (take (5 * n) el) / 5 ≡ n = omega (arith, length-take-le (5 * n) el h) in
+    rw k (keep_same (λ e. eqb (get_or (take (5 * n) el) (5 * e + 2) 0) 0) (λ e. eqb (get_or el (5 * e + 2) 0) 0) (run 0 (n - 0)) (λ e i. ap (λ (x : ℕ). eqb x 0) (get_or-take (5 * n) el (5 * e + 2) 0 (omega (arith, (in_run 0 (n - 0) e i).1)))))
 
 pub surviving-few : (el : List ℕ) (a n : ℕ) → length (surviving el a n) ≤ n
 surviving-few el a n = omega (arith, keep-length (λ k. eqb (get_or el (5 * k + 2) 0) 0) (run a (n - a)), run_length a (n - a))

@@ -1,8 +1,9 @@
 // Flattening: a recipe's answer, and its flat table, written from the rooms that composing fills.
-// Public calls, which require nothing: flatten, exported to C by composer_c as bandrolt_flatten; flatten_and_check. For the floors above: source, field_width, record_width, Survivors, the survivors one after the other, count_survivors, Site, put_field, write_table.
+// Public calls, which require nothing: flatten, exported to C by composer_c as bandrolt_flatten; flatten_and_check. For the floors above: source, field_width, record_width, Fates, Survivors, the survivors one after the other, count_survivors, Site, put_field, Writer, write_table.
 #![tactic(auto)]
 
-ghost use Rattle.std.specs.Prelude.{◌≡◌, ◌++◌, ◌+◌, ◌*◌, ◌<◌, ◌≤◌, length, get_or, drop, MatchOption, [], ◌∷◌};
+ghost use Rattle.std.specs.Prelude.{◌≡◌, ◌++◌, ◌+◌, ◌*◌, ◌/◌, ◌<◌, ◌≤◌, length, get_or, drop, MatchOption, [], ◌∷◌};
+ghost use Rattle.std.proofs.Props.{props};
 ghost use Rattle.std.specs.Iterator.{YieldsFirst, item_count};
 ghost use Rattle.std.proofs.lemmas.List.Edits.{sets};
 ghost use Rattle.names.specs.Judging.{row_number};
@@ -13,12 +14,13 @@ ghost use Rattle.flat_names.specs.Rows.{Naming};
 ghost use Rattle.composer.specs.Flat.{flat_field, flat};
 ghost use Rattle.composer.specs.Verdicts.{recipe_of, refused, verdict, written};
 ghost use Rattle.compose.specs.Rows.{Unrefused};
-ghost use Rattle.composer.specs.Surviving.{Rowed, surviving, survivors_left};
+ghost use Rattle.composer.specs.Fates.{Fated, Writable};
+ghost use Rattle.composer.specs.Surviving.{surviving, survivors_left};
 ghost use Rattle.composer.specs.Writing.{row_site, numbered_site, linked_site, site_of, SiteInTree};
 
-use compose::{Composition, Rooms};
+use compose::{Arrays, Composition};
 use elements::{INSTANCE, RECORD};
-use flat_names::Prefixes;
+use flat_names::{PrefixRooms, Prefixes};
 use names::{Reason, Refusal};
 use recipe::Source;
 use shadow::cell;
@@ -65,33 +67,51 @@ impl Site {
     }
 }
 
-// The numbers of the elements that survive, in tree order: those from `at` on, of `elems` elements.
+// The elements of the tree as rows, by their numbers, which say whether an element is gone.
+#[derive(Clone, Copy)]
+pub struct Fates<'a> {
+    pub source: &'a Source<'a>,
+    pub elements: &'a [u16],
+    pub elems: usize,
+    pub ghost fated: { Fated (recipe source.now) elements.now elems },
+}
+
+impl<'a> Fates<'a> {
+    // Those of a recipe that no row refuses.
+    pub fn of(c: &Composition<'a>) -> Fates<'a>
+        ensures { (recipe result.source.now ≡ recipe c.now.tree.source.now) × ((result.elements.now ≡ c.now.elements.now) × (result.elems ≡ c.now.size.elems)) }
+    {
+        Fates {
+            source: c.tree.source,
+            elements: c.elements,
+            elems: c.size.elems,
+        }
+    }
+}
+
+// The numbers of the elements that survive, in tree order: those from `at` on, of the elements of these rows.
 #[derive(Clone, Copy)]
 pub struct Survivors<'a> {
-    pub el: &'a [u16],
+    pub rows: &'a [u16],
     pub at: usize,
-    pub elems: usize,
 }
 
 // The first survivor of the elements from number `at` on.
-fn first_survivor(el: &[u16], at: usize, elems: usize) -> Option<usize>
-    requires { 5 * elems ≤ length el.now }
-    ensures { MatchOption result (surviving el.now at elems ≡ []) (λ e. (e < elems) × (surviving el.now at elems ≡ e ∷ surviving el.now (e + 1) elems)) }
+fn first_survivor(rows: &[u16], at: usize) -> Option<usize>
+    ensures { let n = length rows.now / 5 in MatchOption result (surviving rows.now at n ≡ []) (λ e. (e < n) × (surviving rows.now at n ≡ e ∷ surviving rows.now (e + 1) n)) }
 {
-    (at..elems).find(|&e| !elements::is_gone(el, e))
+    (at..rows.len() / 5).find(|&e| !elements::is_gone(rows, e))
 }
 
 impl<'a> Iterator for Survivors<'a> {
     type Item = usize;
-
-    ghost can_next = { Rowed };
 
     ghost next_gives = { YieldsFirst survivors_left };
 
     ghost remaining = { item_count survivors_left };
 
     fn next(&mut self) -> Option<usize> {
-        let e = first_survivor(self.el, self.at, self.elems)?;
+        let e = first_survivor(self.rows, self.at)?;
         self.at = e + 1;
         Some(e)
     }
@@ -99,13 +119,12 @@ impl<'a> Iterator for Survivors<'a> {
 
 impl<'a> Survivors<'a> {
     // Those of all elements.
-    pub fn of(c: &Composition<'a>) -> Survivors<'a>
-        ensures { Rowed result × (survivors_left result ≡ surviving c.now.elements.now 0 c.now.tree.size.elems) }
+    pub fn of(f: &Fates<'a>) -> Survivors<'a>
+        ensures { survivors_left result ≡ surviving f.now.elements.now 0 f.now.elems }
     {
         Survivors {
-            el: c.elements,
+            rows: &f.elements[..5 * f.elems],
             at: 0,
-            elems: c.tree.size.elems,
         }
     }
 }
@@ -127,10 +146,10 @@ pub fn record_width(w: usize) -> usize
 }
 
 // How many of the elements survive.
-pub fn count_survivors(c: &Composition) -> usize
-    ensures { result ≡ length (survivors (recipe c.now.tree.source.now)) }
+pub fn count_survivors(f: &Fates) -> usize
+    ensures { result ≡ length (survivors (recipe f.now.source.now)) }
 {
-    Survivors::of(c).count()
+    Survivors::of(f).count()
 }
 
 // Where the end of the chain from the reference of the element of number e is.
@@ -138,7 +157,7 @@ fn reference_site(el: &[u16], e: usize) -> Option<Site>
     requires { (e < 1024) × ((5 * e + 4 < length el.now) × (5 * get_or el.now (5 * e + 4) 0 ≤ length el.now)) }
     ensures { result ≡ numbered_site el.now (get_or el.now (5 * e + 4) 0) }
 {
-    let z = cell(el, 5 * e, references::REFERENCE_END).checked_sub(1)?;
+    let z = tree::numbered(el, 5 * e, references::REFERENCE_END)?;
     Some(Site::of(el, z))
 }
 
@@ -153,23 +172,60 @@ pub fn put_field(prefixes: &Prefixes, site: Option<Site>, out: &mut [u8], at: us
     }
 }
 
+// What the flat table is written from: the elements of the tree, the shadow, which has their parents, and the prefixes.
+#[derive(Clone, Copy)]
+pub struct Writer<'a> {
+    pub fates: Fates<'a>,
+    pub shadow: &'a [u16],
+    pub prefixes: Prefixes<'a>,
+    pub ghost writable: { Writable (recipe fates.source.now) shadow.now fates.elements.now },
+    pub ghost alike: { recipe prefixes.source.now ≡ recipe fates.source.now } by { Prim.hlevel props },
+}
+
+impl<'a> Writer<'a> {
+    // That of a recipe that no row refuses, with its prefixes, for which the rooms are lent.
+    pub fn of(c: &'a Composition, rooms: &'a mut PrefixRooms) -> Writer<'a>
+        ensures { recipe result.fates.source.now ≡ recipe c.now.tree.source.now }
+    {
+        let tree = c.tree;
+        let PrefixRooms {
+            bytes: rows,
+            lengths,
+        } = rooms;
+        let prefixes = Prefixes::fill(
+            tree.source,
+            tree.shadow,
+            tree.instances,
+            c.size.insts,
+            rows,
+            lengths,
+        );
+        Writer {
+            fates: Fates::of(c),
+            shadow: tree.shadow,
+            prefixes,
+        }
+    }
+}
+
 // Writes the flat table: the record of each survivor, in tree order.
-pub fn write_table(c: &Composition, prefixes: &Prefixes, out: &mut [u8])
-    requires { let s = recipe c.now.tree.source.now in (recipe prefixes.now.source.now ≡ s) × (flat_length s.width * length (survivors s) ≤ length out.old) }
-    ensures { let s = recipe c.now.tree.source.now in out.new ≡ flat s ++ drop (length (flat s)) out.old }
+pub fn write_table(from: &Writer, out: &mut [u8])
+    requires { let s = recipe from.now.fates.source.now in flat_length s.width * length (survivors s) ≤ length out.old }
+    ensures { let s = recipe from.now.fates.source.now in out.new ≡ flat s ++ drop (length (flat s)) out.old }
 {
-    let s = c.tree.source;
+    let s = from.fates.source;
+    let el = from.fates.elements;
     let f = field_width(s.width);
     let row = record_width(s.width);
     let mut p = 0usize;
-    for e in Survivors::of(c) {
-        let own = Site::of(c.elements, e);
-        let parent = Site::linked(own.inst, c.tree.shadow, own.place, shadow::PARENT);
-        let end = reference_site(c.elements, e);
-        out[p] = s.bytes[own.place + 1 + s.width];
-        put_field(prefixes, Some(own), out, p + 1);
-        put_field(prefixes, parent, out, p + 1 + f);
-        put_field(prefixes, end, out, p + 1 + f + f);
+    for e in Survivors::of(&from.fates) {
+        let own = Site::of(el, e);
+        let parent = Site::linked(own.inst, from.shadow, own.place, shadow::PARENT);
+        let end = reference_site(el, e);
+        out[p] = s.class_at(own.place);
+        put_field(&from.prefixes, Some(own), out, p + 1);
+        put_field(&from.prefixes, parent, out, p + 1 + f);
+        put_field(&from.prefixes, end, out, p + 1 + f + f);
         p += row;
     }
 }
@@ -192,18 +248,8 @@ fn write_all(c: &Composition, table: &mut [u8])
     requires { let s = recipe c.now.tree.source.now in flat_length s.width * length (survivors s) ≤ length table.old }
     ensures { let s = recipe c.now.tree.source.now in table.new ≡ flat s ++ drop (length (flat s)) table.old }
 {
-    let tree = c.tree;
-    let mut bytes = [0u8; flat_names::PREFIX_BYTES];
-    let mut lengths = [0u16; flat_names::PREFIX_ROWS];
-    let prefixes = Prefixes::fill(
-        tree.source,
-        tree.shadow,
-        tree.instances,
-        tree.size.insts,
-        &mut bytes,
-        &mut lengths,
-    );
-    write_table(c, &prefixes, table);
+    let mut rooms = PrefixRooms::new();
+    write_table(&Writer::of(c, &mut rooms), table);
 }
 
 // Row 13, of a recipe that no other row refuses; where it does not apply, the flat table.
@@ -211,7 +257,7 @@ fn flatten_composed(c: &Composition, table: &mut [u8]) -> Answer
     requires { Unrefused (recipe c.now.tree.source.now) }
     ensures { let s = recipe c.now.tree.source.now in (result ≡ verdict s (length table.old)) × (table.new ≡ written s table.old) }
 {
-    let count = count_survivors(c);
+    let count = count_survivors(&Fates::of(c));
     let bytes = count * record_width(c.tree.source.width);
     if table.len() < bytes {
         return Answer::from(Refusal {
@@ -242,8 +288,8 @@ pub fn source(bytes: &[u8]) -> Source
 pub fn flatten(recipe: &[u8], table: &mut [u8]) -> Answer
     ensures { (result ≡ verdict (recipe_of recipe.now) (length table.old)) × (table.new ≡ written (recipe_of recipe.now) table.old) }
 {
-    let mut rooms = Rooms::new();
-    match compose::compose(&source(recipe), &mut rooms) {
+    let mut arrays = Arrays::new();
+    match compose::compose(&source(recipe), arrays.rooms()) {
         Err(refusal) => Answer::from(refusal),
         Ok(c) => flatten_composed(&c.with_source(&source(recipe)), table),
     }

@@ -22,7 +22,7 @@ use Rattle.shadow.specs.Shadow.{linked}
 use Rattle.shadow.proofs.Cells.{row_room as record-room}
 use Rattle.tree.specs.Faults.{fault₇, most_elements}
 use Rattle.tree.specs.Numbers.{number, run, weight}
-use Rattle.targets.specs.Targeted.{Targeted}
+use Rattle.targets.specs.Targeted.{Aimed}
 use Rattle.tree.specs.Tree.{Node, definition_at, node, tree_elements}
 use Rattle.tree.proofs.Instances.{elements-most}
 use Rattle.tree.proofs.Nodes.{in_tree}
@@ -99,14 +99,14 @@ link_is s x f e =
     rw (e, n, ne_eqb k 0 (not-zero s (holder s x.place) k r)))
 
 -- ---- two elements of one instance, by the cells of their records
-module _ {s : Recipe} {t inst : List ℕ} {insts : ℕ} (T : Targeted s t inst insts) where
+module _ {s : Recipe} {t : List ℕ} (A : Aimed s t) where
   pub element-room : (x : Node) → In x (tree_elements s) → x.place + 13 ≤ length t
-  element-room x i = record-room T.aimed.measured.linked.numbered.shadowed x.place (element-held s x i).placed
+  element-room x i = record-room A.measured.linked.numbered.shadowed x.place (element-held s x i).placed
 
   pub order-cell : (x : Node) → In x (tree_elements s) → get_or t (x.place + 1) 0 ≡ order s (definition_at s x.path) x.place
   order-cell x i =
       let h = element-held s x i in
-      T.aimed.measured.linked.numbered.orders x.place h.placed h.passes ∙ ap (λ (d : ℕ). order s d x.place) h.held
+      A.measured.linked.numbered.orders x.place h.placed h.passes ∙ ap (λ (d : ℕ). order s d x.place) h.held
 
   -- the element of number e, at q, and the one at m in the same instance
   module _ {e q : ℕ} (E : Element s e q) (m : ℕ) (j : In (node E.it.path m) (tree_elements s)) where
@@ -123,8 +123,8 @@ module _ {s : Recipe} {t inst : List ℕ} {insts : ℕ} (T : Targeted s t inst i
           let g : get_or t (E.it.place + 1) 0 ≡ get_or t (q + 1) 0 = ap (λ (z : ℕ). get_or t (z + 1) 0) E.at in
           (omega (arith, E.num), omega (arith, E.num))
 
-      pub sibling-few : e - a + c < 1024
-      sibling-few = omega (arith, sibling-number.1, number-few s T.planted.row₇ (node E.it.path m) j)
+      pub sibling-few : fault₇ s ≡ None → e - a + c < 1024
+      sibling-few h₇ = omega (arith, sibling-number.1, number-few s h₇ (node E.it.path m) j)
 
 -- ---- columns
 pub only_same : (k : ℕ) (a : List ℕ) → Only k a a

@@ -23,7 +23,7 @@ use Rattle.tree.specs.Tree.{Node, node, parent_of, same_node, tree_elements}
 use Rattle.tree.proofs.Instances.{depth}
 use Rattle.tree.proofs.Nodes.{nodes-in, parent_in}
 use Rattle.tree.proofs.Numbering.{number-few}
-use Rattle.targets.specs.Targeted.{Targeted}
+use Rattle.targets.specs.Targeted.{Aimed}
 use Rattle.marks.specs.Cells.{AllStamped, aim_number, gone_cell, is_set, mark_cell, owner_cell, port_cell, stamps}
 use Rattle.elements.specs.Columns.{Gones}
 use Rattle.elements.specs.Gone.{Element, GoneAt}
@@ -156,7 +156,7 @@ module _ (s : Recipe) (h₅ : fault₅ s ≡ None) (h₇ : fault₇ s ≡ None) 
       ∙ marks-any (λ r. removes s x r || owns_by s x r)
 
 -- ---- an element and its parent
-module _ {s : Recipe} {t inst : List ℕ} {insts : ℕ} {cells : List Bool} (T : Targeted s t inst insts) (S : AllStamped s cells) {e q : ℕ} (E : Element s e q) where
+module _ {s : Recipe} {t : List ℕ} {cells : List Bool} (A : Aimed s t) (h₇ : fault₇ s ≡ None) (S : AllStamped s cells) {e q : ℕ} (E : Element s e q) where
   abbrev x : Node
   x = E.it
 
@@ -164,13 +164,13 @@ module _ {s : Recipe} {t inst : List ℕ} {insts : ℕ} {cells : List Bool} (T :
   marked n = is_set cells (owner_cell n) || is_set cells (gone_cell n)
 
   marked-is : (y : Node) → In y (tree_elements s) → marked (number s y) ≡ is_marked_gone s y
-  marked-is = marked-law s T.aimed.measured.linked.row₅ T.planted.row₇ T.aimed.row₈ cells S
+  marked-is = marked-law s A.measured.linked.row₅ h₇ A.row₈ cells S
 
   pub gone-low : e < 1024
-  gone-low = omega (arith, number-few s T.planted.row₇ x E.tree, E.num)
+  gone-low = omega (arith, number-few s h₇ x E.tree, E.num)
 
   pub gone-room : q + 13 ≤ length t
-  gone-room = omega (arith, element-room T x E.tree, E.at)
+  gone-room = omega (arith, element-room A x E.tree, E.at)
 
   -- what the code answers
   module _ {b : Bool} (h : b ≡ marked e) where
@@ -179,17 +179,17 @@ module _ {s : Recipe} {t inst : List ℕ} {insts : ℕ} {cells : List Bool} (T :
 
     pub gone-own : b ≡ true → GoneAt s e true
     unfolding is_gone
-    gone-own z = of-element T.planted.row₇ E (is_gone s) (sym (or_left (is_marked_gone s x) _ (own ∙ z)))
+    gone-own z = of-element h₇ E (is_gone s) (sym (or_left (is_marked_gone s x) _ (own ∙ z)))
 
     module _ {o : Option ℕ} (r : o ≡ linked (get_or t (q + 3) 0)) where
       parent_is : o ≡ element_in s x.place (parent_field s x.place)
       parent_is =
           let i = element-held s x E.tree in
-          r ∙ link_is s x (parent_field s x.place) (ap (λ (z : ℕ). get_or t (z + 3) 0) (sym E.at) ∙ T.aimed.measured.linked.parents x.place i.placed i.passes)
+          r ∙ link_is s x (parent_field s x.place) (ap (λ (z : ℕ). get_or t (z + 3) 0) (sym E.at) ∙ A.measured.linked.parents x.place i.placed i.passes)
 
       pub gone-none : b ≡ false → o ≡ None → GoneAt s e false
       unfolding is_gone parent_of
-      gone-none z n = of-element T.planted.row₇ E (is_gone s) (rw (own ∙ z, sym parent_is ∙ n))
+      gone-none z n = of-element h₇ E (is_gone s) (rw (own ∙ z, sym parent_is ∙ n))
 
       module _ {m : ℕ} (n : o ≡ Some m) where
         a-parent : parent_of s x ≡ Some (node x.path m)
@@ -202,7 +202,7 @@ module _ {s : Recipe} {t inst : List ℕ} {insts : ℕ} {cells : List Bool} (T :
         module _ {a c : ℕ} (u : a ≡ get_or t (q + 1) 0) (v : c ≡ get_or t (m + 1) 0) where
           pub gone-parent : {k : Bool} → b ≡ false → k ≡ marked (e - a + c) → GoneAt s e k
           unfolding is_gone
-          gone-parent z g = of-element T.planted.row₇ E (is_gone s) (rw (own ∙ z, a-parent) (g ∙ ap marked (sibling-number T E m parent-tree u v).1 ∙ marked-is (node x.path m) parent-tree))
+          gone-parent z g = of-element h₇ E (is_gone s) (rw (own ∙ z, a-parent) (g ∙ ap marked (sibling-number A E m parent-tree u v).1 ∙ marked-is (node x.path m) parent-tree))
 
 -- ---- what column 2 says, as `is_gone` reads it
 pub gone-told : (s : Recipe) (el : List ℕ) {e : ℕ} {b : Bool} → Gones s el → b ≡ not (eqb (get_or el (5 * e + 2) 0) 0) → GoneAt s e b

@@ -3,8 +3,5 @@ pub mod Elements
 pub mod Gone
 pub mod Listing
 pub mod Steps
-pub mod Nexts
 pub mod StepTable
 pub mod Lost
-pub mod Passing
-pub mod Following

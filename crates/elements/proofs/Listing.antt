@@ -22,7 +22,7 @@ use Rattle.targets.specs.Targeted.{Targeted}
 use Rattle.elements.specs.Columns.{ElementRows}
 use Rattle.elements.specs.Listing.{Entry, Listed}
 use Rattle.marks.proofs.Threads.{Done, Holds, has-row, path, this-in}
-use Rattle.elements.proofs.Following.{Following, follow-on, follows-holds}
+use Rattle.marks.proofs.Following.{Following, follow-on, follows-holds}
 use Rattle.tree.specs.declared.InstancesOf.{InstancesOf}
 use Rattle.tree.specs.Steps.{StepsTo}
 use Rattle.std.specs.Prelude.{Some}

@@ -8,7 +8,7 @@ use mathlib.Core.List.{List}
 use mathlib.Core.Path.{◌∙◌, ◌≡◌, refl, sym}
 use Rattle.names.specs.Lists.{In, holds}
 use Rattle.names.proofs.Tests.{or_left}
-use Rattle.recipe.specs.Records.{Recipe, is_mark, is_pointer, is_port, is_replaced_by, places}
+use Rattle.recipe.specs.Records.{Recipe, is_mark, is_model, is_pointer, is_port, is_replaced_by, places}
 use Rattle.recipe.proofs.Rows.{replaced-by-mark}
 use Rattle.tree.specs.Tree.{Node, node}
 use Rattle.tree.proofs.ByRecord.{by-none}
@@ -21,7 +21,7 @@ use Rattle.marks.proofs.Marks.{aim-in, aim-some}
 use Rattle.marks.proofs.Pass.{not-model}
 use Rattle.marks.proofs.Relations.{aimed-is}
 use Rattle.recipe.specs.Definitions.{holder}
-use Rattle.marks.proofs.Threads.{Holds, found-one, path, this-in}
+use Rattle.marks.proofs.Threads.{Holds, path}
 use Rattle.marks.proofs.Turn.{Read, aim-eq, aim-few, it-in}
 
 -- a mark has a target that is gone
@@ -36,6 +36,9 @@ not-lost s p k = by-none s (is_replaced_by s) p k (lost s)
 module _ {s : Recipe} {t inst : List ℕ} {insts : ℕ} (T : Targeted s t inst insts) (p : ℕ) (here : In p (places s)) (by : is_replaced_by s p ≡ true) where
   sort : is_pointer s p ≡ true
   sort = or_left (is_mark s p) (is_port s p) (replaced-by-mark s p by)
+
+  pub no-model : is_model s p ≡ false
+  no-model = not-model s p sort
 
   module _ (i : ℕ) (h : Holds s (holder s p) i) {e f : ℕ} (re : e ≡ get_or t (p + 9) 0) (rf : f ≡ get_or inst (6 * i + 2) 0) where
     abbrev this : Node
@@ -56,8 +59,3 @@ module _ {s : Recipe} {t inst : List ℕ} {insts : ℕ} (T : Targeted s t inst i
           let y = from this.path x.0 in
           let g : is_gone s y ≡ b = sym (gone-told s el G r y (aim-in s T.planted.row₇ this y j x.1) (sym (aim-eq T p here sort reads ∙ aimed-is s this y x.1))) in
           rw x.1 g
-
-      pub lost-hit : b ≡ true → true ≡ aims_at_gone s p
-      unfolding aims_at_gone node
-      lost-hit z =
-          sym (found-one s (is_replaced_by s) p (lost s) this (this-in s (is_replaced_by s) p i here (not-model s p sort) by h) refl (lost-is ∙ z))

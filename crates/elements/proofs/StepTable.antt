@@ -36,7 +36,7 @@ use Rattle.marks.proofs.Pass.{not-model}
 use Rattle.marks.proofs.Relations.{aimed-is}
 use Rattle.elements.proofs.Steps.{one-mark, one-owner, owner-free, step_down_lem, step-none, step-up}
 use Rattle.marks.proofs.Threads.{Done, path, this-in}
-use Rattle.elements.proofs.Following.{Following, follow-on, follows-holds}
+use Rattle.marks.proofs.Following.{Following, follow-on, follows-holds}
 use Rattle.tree.specs.declared.InstancesOf.{InstancesOf}
 use Rattle.tree.specs.Steps.{StepsTo}
 use Rattle.marks.proofs.Turn.{Read, aim-eq, aim-few, own-few, own-step}

@@ -1,6 +1,6 @@
 -- The chain's steps in numbers: of each element one more than the number of the next, or 0; and the marks that give them.
 -- Assumes nothing.
-use Rattle.std.specs.Prelude.{◌*◌, ◌+◌, ◌-◌, ℕ, eqb, get_or, set, cond, true, List, ◌≡◌, None, Option, Some}
+use Rattle.std.specs.Prelude.{◌*◌, ◌+◌, ℕ, get_or, set, cond, true, List, ◌≡◌, None, Some}
 use Rattle.names.specs.Lists.{In}
 use Rattle.recipe.specs.Records.{Recipe, is_owned, is_replaced_by, replaced_by_kind}
 use Rattle.tree.specs.Numbers.{number}
@@ -24,10 +24,6 @@ pub record Went (s : Recipe) (D : Node → Type 0) (el : List ℕ) : Type 0 wher
 -- the entry for an element
 unfoldable pub step_of : Recipe → Node → ℕ
 step_of s x = elim (step s x) [ None ↦ 0 | Some y ↦ number s y + 1 ]
-
--- the number of the element that an entry names
-unfoldable pub next_of : ℕ → Option ℕ
-next_of c = cond (eqb c 0) None (Some (c - 1))
 
 -- no element has one as yet
 abbrev pub NoSteps : Recipe → List ℕ → Type 0

@@ -1,30 +1,33 @@
 // The elements of the tree as rows of five: each one's record and instance, whether it is gone, the next of its chain; the refusal 11.
-// For the floors above: list_elements, mark_gone, first_lost, fill_steps; the columns, and is_gone and chain_next, which read two of them. They take the tree,
+// For the floors above: list_elements, mark_gone, first_lost, fill_steps; the columns, and is_gone and chain_next, which read two of them. They take the tree, mark_gone without its instances,
 // and the rows of the elements el; `specs/Columns.antt` has what each column means.
 #![tactic(auto)]
 
 ghost use Rattle.std.specs.Prelude.{◌≡◌, true, ◌||◌, ◌*◌, ◌+◌, ◌≤◌, ◌<◌, length, set, not, eqb, get_or};
 ghost use Rattle.names.specs.Lists.{In};
 ghost use Rattle.recipe.specs.Records.{places, is_element, is_owned, is_replaced_by, next};
-ghost use Rattle.targets.specs.Trees.{recipe_of};
+ghost use Rattle.tree.specs.Steps.{next_of};
+ghost use Rattle.tree.specs.Tree.{tree_elements};
+ghost use Rattle.targets.specs.Trees.{aimed_recipe, recipe_of};
 ghost use Rattle.marks.specs.Faults.{fault₉, aims_at_gone, fault₁₁};
 ghost use Rattle.marks.specs.Cells.{is_set, owner_cell, gone_cell, AllStamped};
 ghost use Rattle.elements.specs.Columns.{ElementRows, Gones, Nexts};
 ghost use Rattle.elements.specs.Gone.{Element, GoneAt};
 ghost use Rattle.elements.specs.Listing.{Listed, Only};
-ghost use Rattle.elements.specs.Steps.{NoSteps, Went, next_of, stepped};
+ghost use Rattle.elements.specs.Steps.{NoSteps, Went, stepped};
 
+use marks::CELLS;
 use recipe::{Kind, Records};
 use shadow::{ELEMENT_ORDER, PARENT, TARGET_NUMBER, cell, set_cell};
-use targets::Tree;
-use tree::FIRST_ELEMENT;
+use targets::{Aims, Tree};
+use tree::{FIRST_ELEMENT, numbered, set_numbered};
 
 // The columns of an element.
 pub const RECORD: usize = 0;
 
 pub const INSTANCE: usize = 1;
 
-pub const GONE: usize = 2;
+const GONE: usize = 2;
 
 const CHAIN_NEXT: usize = 3;
 
@@ -41,7 +44,7 @@ pub fn chain_next(el: &[u16], e: usize) -> Option<usize>
     requires { 5 * e + 3 < length el.now }
     ensures { result ≡ next_of (get_or el.now (5 * e + 3) 0) }
 {
-    cell(el, 5 * e, CHAIN_NEXT).checked_sub(1)
+    numbered(el, 5 * e, CHAIN_NEXT)
 }
 
 // Enters the element of number e: the place of its record, the number of its instance, and as yet no step.
@@ -51,7 +54,7 @@ fn put_element(el: &mut [u16], e: usize, p: usize, i: usize)
 {
     set_cell(el, 5 * e, RECORD, p);
     set_cell(el, 5 * e, INSTANCE, i);
-    set_cell(el, 5 * e, CHAIN_NEXT, 0);
+    set_numbered(el, 5 * e, CHAIN_NEXT, None);
 }
 
 // Enters the element at p, in each instance of its definition.
@@ -79,37 +82,37 @@ pub fn list_elements(tree: &Tree, el: &mut [u16])
 }
 
 // Whether the element of number e is marked as gone, by its cells.
-fn is_marked(cells: &[bool], e: usize) -> bool
-    requires { (length cells.now ≡ 12 * 1024) × (e < 1024) }
+fn is_marked(cells: &[bool; CELLS], e: usize) -> bool
+    requires { e < 1024 }
     ensures { result ≡ is_set cells.now (owner_cell e) || is_set cells.now (gone_cell e) }
 {
     cells[12 * e] | cells[12 * e + 11]
 }
 
 // Whether the element of number e, at place q, is gone: marked so itself, or a child of one that is.
-fn goes(tree: &Tree, cells: &[bool], e: usize, q: usize) -> bool
-    requires { AllStamped (recipe_of tree.now) cells.now × ((length cells.now ≡ 12 * 1024) × Element (recipe_of tree.now) e q) }
-    ensures { GoneAt (recipe_of tree.now) e result }
+fn goes(aims: &Aims, cells: &[bool; CELLS], e: usize, q: usize) -> bool
+    requires { AllStamped (aimed_recipe aims.now) cells.now × Element (aimed_recipe aims.now) e q }
+    ensures { GoneAt (aimed_recipe aims.now) e result }
 {
     if is_marked(cells, e) {
         return true;
     }
-    let Some(m) = shadow::link(tree.shadow, q, PARENT) else {
+    let Some(m) = shadow::link(aims.shadow, q, PARENT) else {
         return false;
     };
-    let a = cell(tree.shadow, q, ELEMENT_ORDER);
-    let b = cell(tree.shadow, m, ELEMENT_ORDER);
+    let a = cell(aims.shadow, q, ELEMENT_ORDER);
+    let b = cell(aims.shadow, m, ELEMENT_ORDER);
     is_marked(cells, e - a + b)
 }
 
-// Marks the elements of the tree that are gone by 1, and the others by 0.
-pub fn mark_gone(tree: &Tree, cells: &[bool], el: &mut [u16])
-    requires { AllStamped (recipe_of tree.now) cells.now × ((length cells.now ≡ 12 * 1024) × (ElementRows (recipe_of tree.now) el.old)) }
-    ensures { Gones (recipe_of tree.now) el.new × Only 2 el.old el.new }
+// Marks the elements of the tree, of which there are `elems`, by 1 where they are gone, and the others by 0.
+pub fn mark_gone(aims: &Aims, cells: &[bool; CELLS], el: &mut [u16], elems: usize)
+    requires { AllStamped (aimed_recipe aims.now) cells.now × (ElementRows (aimed_recipe aims.now) el.old × (elems ≡ length (tree_elements (aimed_recipe aims.now)))) }
+    ensures { Gones (aimed_recipe aims.now) el.new × Only 2 el.old el.new }
 {
-    for e in 0..tree.size.elems {
+    for e in 0..elems {
         let q = cell(el, 5 * e, RECORD);
-        let gone = goes(tree, cells, e, q);
+        let gone = goes(aims, cells, e, q);
         set_cell(el, 5 * e, GONE, gone as usize);
     }
 }
@@ -148,10 +151,10 @@ fn put_step(el: &mut [u16], k: u8, a: usize, b: usize)
     ensures { el.new ≡ stepped el.old k a b }
 {
     if recipe::is_replaced_by(k) {
-        set_cell(el, 5 * b, CHAIN_NEXT, a + 1);
+        set_numbered(el, 5 * b, CHAIN_NEXT, Some(a));
         return;
     }
-    set_cell(el, 5 * a, CHAIN_NEXT, b + 1);
+    set_numbered(el, 5 * a, CHAIN_NEXT, Some(b));
 }
 
 // The steps of the record at p, a replacement or replaced-by, in each instance of its definition.

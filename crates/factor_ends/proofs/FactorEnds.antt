@@ -1,83 +1,56 @@
 -- The end of the chain from the element that a factor names, in one instance.
 -- Assumes nothing.
-use Rattle.std.specs.Prelude.{None, Option, Some, unwrap_or}
+use Rattle.std.specs.Prelude.{None, Option, Some}
 use Prim.Native.Nat.{◌+◌, ◌<◌, ◌≤◌, ℕ}
 use lib.ListN.{get_or, length}
 use mathlib.Core.List.{List}
-use mathlib.Core.Path.{◌∙◌, ◌≡◌, ap, sym}
+use mathlib.Core.Path.{◌∙◌, ◌≡◌, ap}
 use native.Mathlib.Omega.{arith}
-use Rattle.names.specs.Lists.{In}
-use Rattle.names.proofs.Tests.{by-option}
 use Rattle.recipe.specs.Records.{Recipe}
+use Rattle.tree.specs.Faults.{fault₇}
 use Rattle.tree.specs.Numbers.{number}
-use Rattle.tree.specs.Tree.{definition_at, node, tree_elements}
+use Rattle.tree.specs.Tree.{node}
 use Rattle.tree.proofs.Numbering.{number-few}
-use Rattle.targets.proofs.Resolving.{not-zero}
 use Rattle.marks.specs.Marks.{chain_end}
 use Rattle.marks.proofs.Chain.{chain-in}
-use Rattle.elements.proofs.Elements.{element-held, element-room, order-cell}
+use Rattle.elements.proofs.Elements.{element-room, order-cell}
 use Rattle.references.specs.Ends.{Stepping, followed}
 use Rattle.references.proofs.Ends.{end-law, stepping}
-use Rattle.targets.specs.Targeted.{Targeted}
-use Rattle.factor_ends.specs.FactorEnds.{ChainsRequires, Factor, FactorAt, FactorEnd, end_from}
+use Rattle.targets.specs.Targeted.{Aimed}
+use Rattle.factor_ends.specs.FactorEnds.{ChainsRequires, Factor, FactorAt, FactorEnd}
 
-module _ {s : Recipe} {f q : ℕ} {path : List ℕ} {o : Option ℕ} (F : Factor s f q path o) where
-  named-is : (e : ℕ) → o ≡ Some e → q ≡ e
-  named-is e n = F.is ∙ ap (λ (k : Option ℕ). unwrap_or k 0) n
+pub no_end : {s : Recipe} {f : ℕ} {o : Option ℕ} → o ≡ None → FactorEnd s f o None
+no_end n path F = rw n
 
-  factor-none : q ≡ 0 → o ≡ None
+-- it names the element at q
+module _ {s : Recipe} {t el : List ℕ} (A : Aimed s t) (h₇ : fault₇ s ≡ None) (C : ChainsRequires s el) {f q : ℕ} {o : Option ℕ} (n : o ≡ Some q) where
+  pub factor-room : FactorAt s f o → q + 13 ≤ length t
   unfolding node
-  factor-none z =
-      by-option o
-      (λ n. n)
-      (λ e n. absurd (not-zero s (definition_at s path) e (element-held s (node path e) (F.tree e n)).inside (sym (named-is e n) ∙ z)))
+  factor-room F = element-room A (node F.path q) (F.is.tree q n)
 
-  factor-some : (q ≡ 0 → ⊥) → o ≡ Some q
-  factor-some z = by-option o (λ n. absurd (z (F.is ∙ ap (λ (k : Option ℕ). unwrap_or k 0) n))) (λ e n. n ∙ ap Some (sym (named-is e n)))
+  module _ {c : ℕ} (r : c ≡ get_or t (q + 1) 0) where
+    factor-number : {path : List ℕ} → Factor s f path o → f + c ≡ number s (node path q)
+    unfolding number node
+    factor-number {path} F = let y = order-cell A (node path q) (F.tree q n) in omega (arith, F.first)
 
-  factor-tree : (q ≡ 0 → ⊥) → In (node path q) (tree_elements s)
-  factor-tree z = F.tree q (factor-some z)
+    -- what `chain_end` requires
+    pub factor-steps : FactorAt s f o → Stepping el (f + c)
+    factor-steps F =
+        rw (factor-number F.is)
+        (stepping s A.measured.linked.row₅ h₇ el C.nexts (node F.path q) (F.is.tree q n) C.rows.room)
 
-module _ {s : Recipe} {t inst el : List ℕ} {insts : ℕ} (T : Targeted s t inst insts) (C : ChainsRequires s el) {f q : ℕ} where
-  pub no_end : q ≡ 0 → FactorEnd s f q 0
-  unfolding end_from
-  no_end z path o F = rw (factor-none F z, end_from)
+    pub factor-few : FactorAt s f o → f + c < 1024
+    factor-few F = omega (arith, factor-number F.is, number-few s h₇ (node F.path q) (F.is.tree q n))
 
-  module _ (n : q ≡ 0 → ⊥) where
-    pub factor-room : FactorAt s f q → q + 13 ≤ length t
-    unfolding node
-    factor-room A = element-room T (node A.path q) (factor-tree A.is n)
+    module _ {z : ℕ} (e : z ≡ followed el 5 (f + c)) where
+      end_is : {path : List ℕ} → Factor s f path o → z ≡ number s (chain_end s (node path q))
+      end_is {path} F = e ∙ ap (followed el 5) (factor-number F) ∙ end-law s A.measured.linked.row₅ h₇ el C.nexts (node path q) (F.tree q n)
 
-    module _ {c : ℕ} (r : c ≡ get_or t (q + 1) 0) where
-      factor-number : {path : List ℕ} {o : Option ℕ} → Factor s f q path o → f + c ≡ number s (node path q)
-      unfolding number node
-      factor-number {path} F = let y = order-cell T (node path q) (factor-tree F n) in omega (arith, F.first)
+      pub factor-end-few : FactorAt s f o → z < 1024
+      unfolding chain_end
+      factor-end-few F =
+          let y = node F.path q in
+          omega (arith, end_is F.is, number-few s h₇ (chain_end s y) (chain-in s A.measured.linked.row₅ h₇ 5 y (F.is.tree q n)))
 
-      -- what `chain_end` requires
-      pub factor-steps : FactorAt s f q → Stepping el (f + c)
-      factor-steps A =
-          rw (factor-number A.is)
-          (stepping s T.aimed.measured.linked.row₅ T.planted.row₇ el C.nexts (node A.path q) (factor-tree A.is n) C.rows.room)
-
-      pub factor-few : FactorAt s f q → f + c < 1024
-      factor-few A = omega (arith, factor-number A.is, number-few s T.planted.row₇ (node A.path q) (factor-tree A.is n))
-
-      module _ {z : ℕ} (e : z ≡ followed el 5 (f + c)) where
-        end_is : {path : List ℕ} {o : Option ℕ} → Factor s f q path o → z ≡ number s (chain_end s (node path q))
-        end_is {path} F =
-            e ∙ ap (followed el 5) (factor-number F)
-            ∙ end-law s T.aimed.measured.linked.row₅ T.planted.row₇ el C.nexts (node path q) (factor-tree F n)
-
-        pub factor-end-few : FactorAt s f q → z < 1024
-        unfolding chain_end
-        factor-end-few A =
-            let y = node A.path q in
-            omega (
-              arith,
-              end_is A.is,
-              number-few s T.planted.row₇ (chain_end s y) (chain-in s T.aimed.measured.linked.row₅ T.planted.row₇ 5 y (factor-tree A.is n)),
-            )
-
-        pub an-end : FactorEnd s f q (z + 1)
-        unfolding end_from
-        an-end path o F = rw (factor-some F n, end_from) (ap (λ (k : ℕ). k + 1) (end_is F))
+      pub an-end : FactorEnd s f o (Some z)
+      an-end path F = rw n (ap Some (end_is F))

@@ -1,6 +1,6 @@
 -- The entries of the companion: which elements have one, the bytes of each, and how they are written.
 -- Assumes nothing.
-use Rattle.std.specs.Prelude.{IfSome, None, Option, Some}
+use Rattle.std.specs.Prelude.{None, Option, Some}
 use mathlib.Core.Path.{◌≡◌, refl, sym, ap, ◌∙◌}
 use Prim.Native.Nat.{ℕ, ◌+◌, ◌*◌, ◌≤◌, ◌<◌}
 use native.Mathlib.Omega.{arith}
@@ -9,9 +9,9 @@ use mathlib.Core.Bool.{false, not, true, ◌||◌}
 use mathlib.Core.List.{List, [], ◌++◌, ◌∷◌, map, append-nil}
 use lib.Dec.{eqb}
 use lib.ListN.{length, get_or, set, take, drop, length-append, length-map}
-use lib.Seq.{sets, sets-eq, length-sets, take_at}
+use lib.Seq.{sets, sets-eq, length-sets, take_at, length-take-le}
 use Rattle.names.specs.Lists.{In, joined, keep, padded}
-use Rattle.names.proofs.Lists.{in-keep, joined_length, keep-length, keep-off, keep-on}
+use Rattle.names.proofs.Lists.{get_or-in, in-keep, joined_length, keep-length, keep-off, keep-on}
 use Rattle.names.proofs.Stores.{sets-append}
 use Rattle.flat_table.specs.Table.{flat_width}
 use Rattle.recipe.specs.Reading.{fault₃, fault₅}
@@ -30,18 +30,20 @@ use Rattle.flat_names.proofs.Puts.{rows-below}
 use Rattle.compose.specs.Composed.{Composed}
 use Rattle.composer.specs.Flat.{flat_field}
 use Rattle.elements.proofs.Elements.{elements-few}
+use Rattle.elements.specs.Gone.{Numbers}
+use Rattle.references.specs.References.{ClassAt}
 use Rattle.composer.specs.declared.Site.{Site}
 use Rattle.composer.specs.Surviving.{surviving}
 use Rattle.composer.specs.Writing.{SiteInTree, element_at, row_site, site_of}
-use Rattle.composer.proofs.ByNumber.{element-in, instance-low, path-is, row_room, site-is}
-use Rattle.composer.proofs.Fields.{class-inside, class-is}
+use Rattle.composer.proofs.ByNumber.{element-in, element-number, instance-low, path-is, row_room, site-is}
+use Rattle.composer.proofs.Handed.{fated}
 use Rattle.composer.proofs.Lengths.{field-bytes, name-field}
 use Rattle.composer.proofs.Surviving.{Staying, keep-map, stay-here, stay-on, stay-start, survivors-are}
 use Rattle.composer.proofs.Writing.{WriteLoop, write-end, write-on, write-room, write-start}
 use Rattle.factors.specs.Companion.{companion, companion_record, entry_length, factor_at, factor_fields, is_rated, rated}
-use Rattle.factors.specs.Sites.{RowFor, RowRequires, SiteIs, Sited, factor_field, fields_to, stored_site}
-use Rattle.factors.proofs.Paths.{factor-in}
-use Rattle.factors.proofs.Sites.{site-in}
+use Rattle.factors.specs.Sites.{RowFor, SiteIs, Sited, factor_field, fields_to, stored_site}
+use Rattle.factors.proofs.Paths.{factor-in, field_in}
+use Rattle.factors.proofs.Sites.{site-tree}
 
 -- ---- who has an entry
 abbrev pub entries_left : Recipe → List ℕ → List Node
@@ -69,25 +71,27 @@ module _ {s : Recipe} {t inst el : List ℕ} {insts elems : ℕ} (C : Composed s
   h₇ : fault₇ s ≡ None
   h₇ = C.targeted.planted.row₇
 
+  names : Naming s
+  names = naming C.targeted.planted
+
+  two : 2 ≤ s.width
+  two = omega (arith, names.wide)
+
   module _ {e : ℕ} (l : e < length (tree_elements s)) where
     pub entry_row : 5 * e + 5 ≤ length el
     entry_row = row_room h₇ C.elements e l
 
-    module _ {y : Site} (r : y ≡ row_site el e) where
-      place-is : y.place ≡ get_or el (5 * e + 0) 0
-      place-is = ap (λ (z : Site). z.place) r
+    pub is-number : Numbers s e
+    is-number = (element_at s e, element-in s h₇ e l, element-number s h₇ e l)
 
-      pub class-room : y.place + 1 + s.width < length s.bytes
-      class-room = class-inside h₇ C.elements e l place-is
-
-      pub rated-entry : (eqb (get_or s.bytes (y.place + 1 + s.width) 0) 4 || eqb (get_or s.bytes (y.place + 1 + s.width) 0) 6) ≡ is_rated s (element_at s e)
-      unfolding is_rated
-      rated-entry = rw (class-is h₇ C.elements e l place-is)
+    pub rated-entry : {k : ℕ} → ClassAt s e k → (eqb k 4 || eqb k 6) ≡ is_rated s (element_at s e)
+    unfolding is_rated
+    rated-entry K = rw (K (element_at s e) (element-in s h₇ e l) (element-number s h₇ e l))
 
   -- ---- of the survivors that are left, those with an entry
   entries-are : {left : List ℕ} → left ≡ surviving el 0 elems → entries_left s left ≡ rated s
   unfolding rated
-  entries-are e = rw e (ap (keep (is_rated s)) (survivors-are C))
+  entries-are e = rw e (ap (keep (is_rated s)) (survivors-are (fated C)))
 
   pub entries-counted : {left : List ℕ} → left ≡ surviving el 0 elems → length (keep (λ e. is_rated s (element_at s e)) left) ≡ length (rated s)
   entries-counted {left} e =
@@ -136,49 +140,57 @@ pub record FieldsLoop (s : Recipe) (i : ℕ) (row₀ row : List ℕ) (j : ℕ) :
   pub bytes : length (fields_to s (get_or (instances s) i []) j) ≡ j * flat_width s.width
   pub is : row ≡ sets row₀ 0 (fields_to s (get_or (instances s) i []) j)
 
-module _ {s : Recipe} {sites row₀ : List ℕ} {i : ℕ} (R : RowRequires s sites row₀ i) where
+module _ {s : Recipe} {t inst el : List ℕ} {insts elems : ℕ} (C : Composed s t inst el insts elems) where
   pub narrow-field : flat_width s.width ≤ 328
   unfolding flat_width
-  narrow-field = omega (arith, R.naming.narrow)
+  narrow-field = omega (arith, (names C).narrow)
 
-  module _ {row : List ℕ} {j : ℕ} (g : FieldsLoop s i row₀ row j) where
+  module _ {row₀ row : List ℕ} {i j : ℕ} (g : FieldsLoop s i row₀ row j) (room : 2624 ≤ length row₀) where
     module _ (l : j < 8) where
       module _ {f : ℕ} (f-is : f ≡ flat_width s.width) where
         pub fields_fit : j * f + f ≤ 2624
         fields_fit = rw f-is (omega (arith, narrow-field, rows-below j 8 (flat_width s.width) l))
 
         pub fields-room : j * f + flat_width s.width ≤ length row
-        fields-room = omega (arith, fields_fit, f-is, g.long, R.room)
+        fields-room = omega (arith, fields_fit, f-is, g.long, room)
 
-      module _ {x : Option Site} (x-is : x ≡ stored_site sites (16 * i + 2 * j)) where
+      module _ {sites : List ℕ} (S : Sited s sites) (low : i < length (instances s)) {x : Option Site} (x-is : x ≡ stored_site sites (16 * i + 2 * j)) where
         here : SiteIs s (factor_field s (get_or (instances s) i []) j) x
-        here = rw x-is (R.sited.are i j R.low l)
+        here = rw x-is (S.are i j low l)
+
+        factor-tree : (y : Node) → factor_field s (get_or (instances s) i []) j ≡ Some y → In y (tree_elements s)
+        factor-tree = field_in s (h₅ C) (h₇ C) (get_or (instances s) i []) (get_or-in (instances s) i [] low) j
 
         pub here-tree : SiteInTree s x
-        here-tree = here.inside
+        here-tree = site-tree x here factor-tree
 
-        pub fields-turn : {f : ℕ} → f ≡ flat_width s.width → {row' : List ℕ} → row' ≡ sets row (j * f) (flat_field s (site_of s x)) → FieldsLoop s i row₀ row' (j + 1)
-        fields-turn {f} f-is {row'} e =
-            let past = fields_to s (get_or (instances s) i []) j in
-            let F = flat_field s (factor_field s (get_or (instances s) i []) j) in
-            let long : length F ≡ flat_width s.width =
-            field-bytes s (omega (arith, R.naming.wide)) R.naming.formed R.naming.small (factor_field s (get_or (instances s) i []) j) (site-in x here) in
-            let more : fields_to s (get_or (instances s) i []) (j + 1) ≡ past ++ F = one_field s (get_or (instances s) i []) j in
-            let size : length (fields_to s (get_or (instances s) i []) (j + 1)) ≡ j * flat_width s.width + flat_width s.width =
-            omega (arith, ap length more, length-append past F, g.bytes, long) in
-            let at-is : j * f ≡ 0 + length past = rw f-is (omega (arith, g.bytes)) in
-            record {
-              low = omega arith;
-              long = ap length e ∙ length-sets row (j * f) (flat_field s (site_of s x)) ∙ g.long;
-              bytes = size ∙ rw (add-one j) (omega arith);
-              is =
-                  e
-                  ∙ ap (λ (o : Option Node). sets row (j * f) (flat_field s o)) here.is
-                  ∙ ap (λ (y : List ℕ). sets y (j * f) F) g.is
-                  ∙ ap (λ (k : ℕ). sets (sets row₀ 0 past) k F) at-is
-                  ∙ sym (sets-append past row₀ 0 F)
-                  ∙ ap (sets row₀ 0) (sym more);
-            }
+        module _ {f : ℕ} (f-is : f ≡ flat_width s.width) {row' : List ℕ} where
+          turned : row' ≡ sets row (j * f) (flat_field s (site_of s x)) → FieldsLoop s i row₀ row' (j + 1)
+          turned e =
+              let past = fields_to s (get_or (instances s) i []) j in
+              let F = flat_field s (factor_field s (get_or (instances s) i []) j) in
+              let long : length F ≡ flat_width s.width =
+              field-bytes s (two C) (names C).formed (h₇ C) (factor_field s (get_or (instances s) i []) j) factor-tree in
+              let more : fields_to s (get_or (instances s) i []) (j + 1) ≡ past ++ F = one_field s (get_or (instances s) i []) j in
+              let size : length (fields_to s (get_or (instances s) i []) (j + 1)) ≡ j * flat_width s.width + flat_width s.width =
+              omega (arith, ap length more, length-append past F, g.bytes, long) in
+              let at-is : j * f ≡ 0 + length past = rw f-is (omega (arith, g.bytes)) in
+              record {
+                low = omega arith;
+                long = ap length e ∙ length-sets row (j * f) (flat_field s (site_of s x)) ∙ g.long;
+                bytes = size ∙ rw (add-one j) (omega arith);
+                is =
+                    e
+                    ∙ ap (λ (o : Option Node). sets row (j * f) (flat_field s o)) here.is
+                    ∙ ap (λ (y : List ℕ). sets y (j * f) F) g.is
+                    ∙ ap (λ (k : ℕ). sets (sets row₀ 0 past) k F) at-is
+                    ∙ sym (sets-append past row₀ 0 F)
+                    ∙ ap (sets row₀ 0) (sym more);
+              }
+
+          -- by prefixes of the same recipe
+          pub fields-turn : {r : Recipe} → r ≡ s → row' ≡ sets row (j * f) (flat_field r (site_of r x)) → FieldsLoop s i row₀ row' (j + 1)
+          fields-turn q e = turned (rw q at e)
 
     pub fields-end : 8 ≤ j → RowFor s i row
     fields-end h =
@@ -186,7 +198,7 @@ module _ {s : Recipe} {sites row₀ : List ℕ} {i : ℕ} (R : RowRequires s sit
         let past = fields_to s (get_or (instances s) i []) 8 in
         let is : row ≡ sets row₀ 0 past = rw e at g.is in
         let long : length past ≡ 8 * flat_width s.width = rw e at g.bytes in
-        ap (take (8 * flat_width s.width)) (is ∙ sets-eq past row₀ 0 (omega (arith, R.room, narrow-field))) ∙ take_at past (drop (0 + length past) row₀) (8 * flat_width s.width) long
+        ap (take (8 * flat_width s.width)) (is ∙ sets-eq past row₀ 0 (omega (arith, room, narrow-field))) ∙ take_at past (drop (0 + length past) row₀) (8 * flat_width s.width) long
 
 -- ---- the survivors that are left, and what is written
 abbrev pub Entering : Recipe → List ℕ → ℕ → List ℕ → List ℕ → List ℕ → ℕ → Type 0
@@ -194,18 +206,16 @@ Entering s el elems out₀ out left p = Staying el elems left × WriteLoop (comp
 
 -- ---- the entry of the element of number e
 module _ {s : Recipe} {t inst el : List ℕ} {insts elems : ℕ} (C : Composed s t inst el insts elems) where
-  names : Naming s
-  names = naming C.targeted.planted
-
-  two : 2 ≤ s.width
-  two = omega (arith, names.wide)
-
   companion-room : {n : ℕ} → entry_length s.width * length (rated s) ≤ n → length (companion s) ≤ n
-  companion-room h = omega (arith, h, companion-bytes s two names.formed (h₅ C) (h₇ C))
+  companion-room h = omega (arith, h, companion-bytes s (two C) (names C).formed (h₅ C) (h₇ C))
 
   pub narrow-entry : {f : ℕ} → f ≡ flat_width s.width → f ≤ 328
   unfolding flat_width
-  narrow-entry e = omega (arith, e, names.narrow)
+  narrow-entry e = omega (arith, e, (names C).narrow)
+
+  -- a row has room for eight fields
+  pub eight-long : {f : ℕ} → f ≡ flat_width s.width → (row : List ℕ) → 2624 ≤ length row → length (take (8 * f) row) ≡ 8 * f
+  eight-long {f} e row h = length-take-le (8 * f) row (omega (arith, narrow-entry e, h))
 
   module _ {e : ℕ} (l : e < elems) where
     pub below : e < length (tree_elements s)
@@ -215,7 +225,7 @@ module _ {s : Recipe} {t inst el : List ℕ} {insts elems : ℕ} (C : Composed s
     x-tree = element-in s (h₇ C) e below
 
     entry-is : {n : ℕ} → n ≡ entry_length s.width → length (companion_record s (element_at s e)) ≡ n
-    entry-is r = entry-bytes s two names.formed (h₅ C) (h₇ C) (element_at s e) x-tree ∙ sym r
+    entry-is r = entry-bytes s (two C) (names C).formed (h₅ C) (h₇ C) (element_at s e) x-tree ∙ sym r
 
     entry-long : {f : ℕ} → f ≡ flat_width s.width → length (companion_record s (element_at s e)) ≡ 1 + 9 * f
     unfolding entry_length most_depth
@@ -229,31 +239,26 @@ module _ {s : Recipe} {t inst el : List ℕ} {insts elems : ℕ} (C : Composed s
       q-is : y.place ≡ get_or el (5 * e + 0) 0
       q-is = ap (λ (z : Site). z.place) r
 
-      instance-is : y.inst < length (instances s)
+      pub instance-is : y.inst < length (instances s)
       instance-is = instance-low (h₇ C) C.elements e below i-is
-
-      -- its row, by prefixes of the same recipe
-      pub row-requires : {r : Recipe} → r ≡ s → {sites : List ℕ} (row : List ℕ) (kept : Option ℕ) → Sited s sites → 2624 ≤ length row → IfSome kept (λ k. RowFor s k row)
-          → RowRequires r sites row y.inst × IfSome kept (λ k. RowFor r k row)
-      row-requires q row kept g h k = rw q (record { naming = names; sited = g; low = instance-is; room = h }, k)
 
       entry-tree : In (node (get_or (instances s) y.inst []) y.place) (tree_elements s)
       entry-tree = rw (site-is (h₇ C) C.elements e below i-is q-is) x-tree
 
-      -- and its name
+      -- and its name, by prefixes of the same recipe
       pub name-requires : {r : Recipe} → r ≡ s → (at n : ℕ) → at + flat_width s.width ≤ n
           → Naming r × ((y.inst < length (instances r)) × (In (node (get_or (instances r) y.inst []) y.place) (tree_elements r) × (at + flat_width r.width ≤ n)))
-      name-requires q at n h = rw q (names, (instance-is, (entry-tree, h)))
+      name-requires q at n h = rw q (names C, (instance-is, (entry-tree, h)))
 
       written : (out : List ℕ) (at : ℕ) {f : ℕ} (row : List ℕ) {out₁ out₂ : List ℕ} → f ≡ flat_width s.width → RowFor s y.inst row
           → out₁ ≡ sets (set out at 8) (at + 1) (padded (flat_width s.width) (flat_name s (node (get_or (instances s) y.inst []) y.place)))
-          → out₂ ≡ sets out₁ (at + 1 + f) (take (8 * f) (drop 0 row)) → out₂ ≡ sets out at (companion_record s (element_at s e))
+          → out₂ ≡ sets out₁ (at + 1 + f) (take (8 * f) row) → out₂ ≡ sets out at (companion_record s (element_at s e))
       unfolding companion_record flat_field
       written out at {f} row {out₁} {out₂} f-is g o₁ o₂ =
           let x = element_at s e in
           let A = flat_field s (Some x) in
           let B = factor_fields s time_field x.path ++ factor_fields s extent_field x.path in
-          let long : length A ≡ f = name-field s two names.formed (h₇ C) (h₅ C) x x-tree ∙ sym f-is in
+          let long : length A ≡ f = name-field s (two C) (names C).formed (h₇ C) (h₅ C) x x-tree ∙ sym f-is in
           let tail : take (8 * f) row ≡ B =
           ap (λ (k : ℕ). take (8 * k) row) f-is ∙ g ∙ eight-fields s (get_or (instances s) y.inst [])
           ∙ ap (λ (p : List ℕ). factor_fields s time_field p ++ factor_fields s extent_field p) (path-is (h₇ C) C.elements e below i-is) in
@@ -264,13 +269,10 @@ module _ {s : Recipe} {t inst el : List ℕ} {insts elems : ℕ} (C : Composed s
           ∙ sym (sets-append A (set out at 8) (at + 1) B)
           ∙ ap (λ (k : ℕ). sets (set out at 8) k (A ++ B)) (add-one at)
 
-      pub row-lent : {r : Recipe} → r ≡ s → (row : List ℕ) → RowFor r y.inst row → RowFor s y.inst row
-      row-lent q row g = rw q at g
-
-      pub entry-written : {r : Recipe} → r ≡ s → (out : List ℕ) (at : ℕ) {f : ℕ} (row : List ℕ) {out₁ out₂ : List ℕ} → f ≡ flat_width s.width → RowFor r y.inst row
+      pub entry-written : {r : Recipe} → r ≡ s → (out : List ℕ) (at : ℕ) {f : ℕ} (row : List ℕ) {out₁ out₂ : List ℕ} → f ≡ flat_width s.width → RowFor s y.inst row
           → out₁ ≡ sets (set out at 8) (at + 1) (padded (flat_width r.width) (flat_name r (node (get_or (instances r) y.inst []) y.place)))
-          → out₂ ≡ sets out₁ (at + 1 + f) (take (8 * f) (drop 0 row)) → out₂ ≡ sets out at (companion_record s (element_at s e))
-      entry-written q out at row f-is g o₁ o₂ = written out at row f-is (row-lent q row g) (rw q at o₁) o₂
+          → out₂ ≡ sets out₁ (at + 1 + f) (take (8 * f) row) → out₂ ≡ sets out at (companion_record s (element_at s e))
+      entry-written q out at row f-is g o₁ o₂ = written out at row f-is g (rw q at o₁) o₂
 
   -- ---- the loop: with the entries that are left, what is written is the whole companion
   pub enter-start : (out₀ : List ℕ) → entry_length s.width * length (rated s) ≤ length out₀ → {left : List ℕ} → left ≡ surviving el 0 elems → Entering s el elems out₀ out₀ left 0

@@ -1,6 +1,6 @@
 -- Where the factors of an instance are: the row of the instance around it, with the two factors of its own submodel put in.
 -- Assumes nothing.
-use Rattle.std.specs.Prelude.{None, Option, Some, option_map, unwrap_or}
+use Rattle.std.specs.Prelude.{IfSome, None, Option, Some, option_map, unwrap_or}
 use mathlib.Core.Path.{◌≡◌, refl, sym, ap, ◌∙◌}
 use Prim.Native.Nat.{ℕ, suc, ◌+◌, ◌*◌, ◌-◌, ◌≤◌, ◌<◌}
 use native.Mathlib.Nat.{add-zero}
@@ -22,20 +22,20 @@ use Rattle.recipe.proofs.Definitions.{in-submodels}
 use Rattle.shadow.specs.Shadow.{linked}
 use Rattle.shadow.proofs.Cells.{row_room as cells-room}
 use Rattle.tree.specs.Numbers.{number}
+use Rattle.tree.specs.Steps.{cell_of}
 use Rattle.tree.specs.Tree.{Node, definition_at, instances, node, tree_elements}
 use Rattle.tree.specs.Planted.{Planted}
 use Rattle.targets.proofs.Resolving.{not-zero}
-use Rattle.elements.proofs.Elements.{element-held}
+use Rattle.elements.proofs.Elements.{element-held, link_is}
 use Rattle.tree.proofs.Instances.{depth, instance-path}
 use Rattle.marks.specs.Faults.{factor_named}
 use Rattle.marks.specs.Marks.{chain_end}
 use Rattle.marks.proofs.Chain.{chain-in}
 use Rattle.flat_names.proofs.Filling.{main-path, row-copied}
-use Rattle.references.specs.Ends.{end_cell}
 use Rattle.factor_ends.specs.FactorEnds.{Factor, FactorAt, FactorEnd, end_from}
 use Rattle.compose.specs.Composed.{Composed}
 use Rattle.composer.specs.declared.Site.{Site}
-use Rattle.composer.specs.Writing.{linked_site, node_at, numbered_site, row_site, site_of}
+use Rattle.composer.specs.Writing.{SiteInTree, linked_site, node_at, numbered_site, row_site, site_of}
 use Rattle.composer.proofs.Fields.{end-room, end-site, end-tree}
 use Rattle.factors.specs.Companion.{factor_for}
 use Rattle.factors.specs.Sites.{FactorSite, SiteIs, site_cells, stored_site, SitesTo, factor_field}
@@ -46,11 +46,19 @@ pub blank-site : (s : Recipe) {o : Option Node} → o ≡ None → SiteIs s o No
 unfolding site_of
 blank-site s n = record { is = sym n; inside = tt }
 
--- what is there is an element of the tree
-pub site-in : {s : Recipe} {o : Option Node} (x : Option Site) → SiteIs s o x → (y : Node) → o ≡ Some y → In y (tree_elements s)
+-- one in the tree is at a record
+site_inside : (s : Recipe) (x : Option Site) → SiteInTree s x → IfSome x (λ y. (y.inst < length (instances s)) × (0 < y.place))
+unfolding node
+site_inside s None h = tt
+site_inside s (Some x) h =
+    let held = element-held s (node_at s x) h.1 in
+    (h.0, three 0 x.place (λ l. l) (λ z. absurd (not-zero s _ x.place held.inside (sym z))) (λ l. absurd (omega arith)))
+
+-- and where o is in the tree it is, too
+pub site-tree : {s : Recipe} {o : Option Node} (x : Option Site) → SiteIs s o x → ((y : Node) → o ≡ Some y → In y (tree_elements s)) → SiteInTree s x
 unfolding site_of
-site-in None S y n = not_none (S.is ∙ n)
-site-in (Some x) S y n = let e = the-some (S.is ∙ n) in rw e at S.inside.1
+site-tree None S h = tt
+site-tree {s} (Some x) S h = (S.inside.0, h (node_at s x) (sym S.is))
 
 -- a site reads as it was written, for no record stands at 0
 module _ (sites : List ℕ) (k : ℕ) where
@@ -87,15 +95,14 @@ cells-are (Some y) x e = rw e refl
 
 -- what is put there is read
 put-reads : {s : Recipe} {o : Option Node} (x : Option Site) → SiteIs s o x → (sites : List ℕ) (at : ℕ) → at + 1 < length sites → {sites' : List ℕ} → sites' ≡ sets sites at (site_cells x) → stored_site sites' at ≡ x
-unfolding site_cells node
+unfolding site_cells
 put-reads None S sites at l {sites'} e =
     read-none sites' at (ap (λ (o : List ℕ). get_or o (at + 1) 0) e ∙ stored_at (0 ∷ 0 ∷ []) sites at 1 (omega arith) (omega arith))
-put-reads {s} (Some x) S sites at l {sites'} e =
-    let h = element-held s (node_at s x) S.inside.1 in
+put-reads (Some x) S sites at l {sites'} e =
     read-some sites' at x
     (ap (λ (o : List ℕ). get_or o (at + 0) 0) e ∙ stored_at (x.inst ∷ x.place ∷ []) sites at 0 (omega arith) (omega arith))
     (ap (λ (o : List ℕ). get_or o (at + 1) 0) e ∙ stored_at (x.inst ∷ x.place ∷ []) sites at 1 (omega arith) (omega arith))
-    (not-zero s _ x.place h.inside)
+    (λ z. omega (arith, S.inside.1, z))
 
 -- ---- what a cell names
 pub linked-none : {x : ℕ} → None ≡ linked x → x ≡ 0
@@ -107,66 +114,54 @@ linked-some {x} {q} e =
     (λ t. some-none (e ∙ rw t refl))
     (λ t. let h : q ≡ x = the-some (e ∙ rw t refl) in (h, λ z. eqb-false x 0 t (sym h ∙ z)))
 
--- ---- the end of a factor's chain, by its number
-module _ {s : Recipe} {t inst el : List ℕ} {insts elems : ℕ} (C : Composed s t inst el insts elems) {f q z : ℕ} (E : FactorEnd s f q z) where
-  abbrev ended : List ℕ → Option ℕ → Option Node
-  ended path o = option_map (chain_end s) (option_map (node path) o)
+-- ---- the end of a factor's chain, by its number r
+module _ {s : Recipe} {t inst el : List ℕ} {insts elems : ℕ} (C : Composed s t inst el insts elems) {f : ℕ} {o : Option ℕ} (r : Option ℕ) (E : FactorEnd s f o r) where
+  abbrev ended : List ℕ → Option Node
+  ended path = option_map (chain_end s) (option_map (node path) o)
 
-  module _ (path : List ℕ) (o : Option ℕ) (F : Factor s f q path o) where
-    ended-in : (y : Node) → ended path o ≡ Some y → In y (tree_elements s)
+  module _ (path : List ℕ) (F : Factor s f path o) where
+    ended-in : (y : Node) → ended path ≡ Some y → In y (tree_elements s)
     unfolding chain_end
     ended-in y n =
         let a = some-map (chain_end s) (option_map (node path) o) y n in
         let b = some-map (node path) o a.0 a.1 in
         rw a.2 (chain-in s C.targeted.planted.measured.linked.row₅ C.targeted.planted.row₇ 5 a.0 (rw b.2 (F.tree b.0 b.1)))
 
-    ended-none : ended path o ≡ None → z ≡ 0
-    unfolding end_from
+    ended-none : ended path ≡ None → cell_of r ≡ 0
     ended-none n =
         by-option o
-        (λ k. E path o F ∙ rw k)
-        (λ e k. let g : ended path o ≡ Some (chain_end s (node path e)) = rw k in not_none (sym n ∙ g))
+        (λ k. ap cell_of (E path F ∙ ap (end_from s path) k))
+        (λ e k. let g : ended path ≡ Some (chain_end s (node path e)) = rw k in not_none (sym n ∙ g))
 
-    end-number : (e : ℕ) → o ≡ Some e → z ≡ number s (chain_end s (node path e)) + 1
-    unfolding end_from
-    end-number e k = E path o F ∙ ap (end_from s path) k
-
-    ended_some : (y : Node) → ended path o ≡ Some y → z ≡ number s y + 1
+    ended_some : (y : Node) → ended path ≡ Some y → cell_of r ≡ number s y + 1
     ended_some y n =
         let a = some-map (chain_end s) (option_map (node path) o) y n in
         let b = some-map (node path) o a.0 a.1 in
-        end-number b.0 b.1 ∙ ap (λ (v : Node). number s v + 1) (sym (a.2 ∙ ap (chain_end s) b.2))
+        ap cell_of (E path F ∙ ap (end_from s path) b.1) ∙ ap (λ (v : Node). number s v + 1) (sym (a.2 ∙ ap (chain_end s) b.2))
 
-    room_of : 5 * z ≤ length el
-    room_of = end-room C.targeted.planted.row₇ C.elements ended-in ended-none ended_some
+  factor-room : FactorAt s f o → 5 * cell_of r ≤ length el
+  factor-room A = end-room C.targeted.planted.row₇ C.elements (ended-in A.path A.is) (ended-none A.path A.is) (ended_some A.path A.is)
 
-  factor-room : FactorAt s f q → 5 * z ≤ length el
-  factor-room A = room_of A.path A.named A.is
-
-  factor-site : {x : Option Site} → x ≡ numbered_site el z → FactorSite s f q x
-  factor-site at path o F = record {
-    is = end-site C.targeted.planted.row₇ C.elements (ended-in path o F) (ended-none path o F) (ended_some path o F) at;
-    inside = end-tree C.targeted.planted.row₇ C.elements (ended-in path o F) (ended-none path o F) (ended_some path o F) at;
+  factor-site : {x : Option Site} → x ≡ numbered_site el (cell_of r) → FactorSite s f o x
+  factor-site {x} at path F = record {
+    is = end-site C.targeted.planted.row₇ C.elements (ended-in path F) (ended-none path F) (ended_some path F) at;
+    inside = site_inside s x (end-tree C.targeted.planted.row₇ C.elements (ended-in path F) (ended-none path F) (ended_some path F) at);
   }
 
--- as it is found
-module _ {s : Recipe} {t inst el : List ℕ} {insts elems : ℕ} (C : Composed s t inst el insts elems) {f q : ℕ} (r : Option ℕ) (E : FactorEnd s f q (end_cell r)) where
-  pub lost-site : r ≡ None → FactorSite s f q None
+  -- as it is found
+  pub lost-site : r ≡ None → FactorSite s f o None
   unfolding numbered_site
-  lost-site n = factor-site C (rw n at E) refl
+  lost-site n = factor-site (rw n refl)
 
   module _ {z : ℕ} (e : r ≡ Some z) where
-    found-end : FactorEnd s f q (z + 1)
-    found-end = rw e at E
+    pub found-room : FactorAt s f o → 5 * z + 5 ≤ length el
+    found-room A = omega (arith, factor-room A, ap cell_of e)
 
-    pub found-room : FactorAt s f q → 5 * z + 5 ≤ length el
-    found-room A = omega (arith, factor-room C found-end A)
-
-    pub found-site : {x : Site} → x ≡ row_site el z → FactorSite s f q (Some x)
+    pub found-site : {x : Site} → x ≡ row_site el z → FactorSite s f o (Some x)
     unfolding numbered_site
     found-site h =
         let back : z + 1 - 1 ≡ z = omega arith in
-        factor-site C found-end (ap Some h ∙ sym (rw (ne_eqb (z + 1) 0 (λ n. omega (arith, n)), back) refl))
+        factor-site (rw e (ap Some h ∙ sym (rw (ne_eqb (z + 1) 0 (λ n. omega (arith, n)), back) refl)))
 
 -- ---- a row that is being filled: those before it are done, and its fields are F
 pub record SiteRow (s : Recipe) (sites : List ℕ) (i : ℕ) (F : ℕ → Option Node) : Type 0 where
@@ -321,48 +316,49 @@ module _ {s : Recipe} {t inst el : List ℕ} {insts elems : ℕ} (C : Composed s
 
         module _ {f : ℕ} (f-is : f ≡ get_or inst (6 * u + 2) 0) where
           -- a field of it, by its cell
-          factor : (field : Recipe → ℕ → List ℕ) {q : ℕ} → q ≡ unwrap_or (element_in s k (field s k)) 0 → Factor s f q around (element_in s k (field s k))
+          factor : (field : Recipe → ℕ → List ℕ) {o : Option ℕ} → o ≡ element_in s k (field s k) → Factor s f around o
           unfolding around
           factor field e = record {
             inside = around-in;
             first = f-is ∙ P.rows.start u (omega (arith, under));
-            is = e;
-            tree = λ x n. named-tree s m around around-in submodel k (field s k) x some_is n;
+            tree = λ x n. named-tree s m around around-in submodel k (field s k) x some_is (sym e ∙ n);
           }
 
           factor-is : (field : Recipe → ℕ → List ℕ) → option_map (chain_end s) (option_map (node around) (element_in s k (field s k))) ≡ factor_for s field around m
           unfolding factor_for factor_named node
           factor-is field = rw (some_is, factor_for)
 
-          module _ {q : ℕ} where
-            time-factor : q ≡ get_or t (k + 3) 0 → Factor s f q around (element_in s k (time_field s k))
-            time-factor e = let h = scaling s m k some_is in factor time_field (e ∙ P.measured.linked.times k h.placed h.passes)
+          module _ {o : Option ℕ} where
+            time-is : o ≡ linked (get_or t (k + 3) 0) → o ≡ element_in s k (time_field s k)
+            unfolding node
+            time-is e = let h = scaling s m k some_is in e ∙ link_is s (node around k) (time_field s k) (P.measured.linked.times k h.placed h.passes)
 
-            extent-factor : q ≡ get_or t (k + 5) 0 → Factor s f q around (element_in s k (extent_field s k))
-            extent-factor e = let h = scaling s m k some_is in factor extent_field (e ∙ P.measured.linked.extents k h.placed h.passes)
+            extent-is : o ≡ linked (get_or t (k + 5) 0) → o ≡ element_in s k (extent_field s k)
+            unfolding node
+            extent-is e = let h = scaling s m k some_is in e ∙ link_is s (node around k) (extent_field s k) (P.measured.linked.extents k h.placed h.passes)
 
-            pub time-at : q ≡ get_or t (k + 3) 0 → FactorAt s f q
-            time-at e = record { path = around; named = element_in s k (time_field s k); is = time-factor e }
+            pub time-at : o ≡ linked (get_or t (k + 3) 0) → FactorAt s f o
+            time-at e = record { path = around; is = factor time_field (time-is e) }
 
-            pub extent-at : q ≡ get_or t (k + 5) 0 → FactorAt s f q
-            extent-at e = record { path = around; named = element_in s k (extent_field s k); is = extent-factor e }
+            pub extent-at : o ≡ linked (get_or t (k + 5) 0) → FactorAt s f o
+            extent-at e = record { path = around; is = factor extent_field (extent-is e) }
 
-            time-site : q ≡ get_or t (k + 3) 0 → {a : Option Site} → FactorSite s f q a → SiteIs s (factor_for s time_field around m) a
-            time-site e S = rw (factor-is time_field) at (S around (element_in s k (time_field s k)) (time-factor e))
+            time-site : o ≡ linked (get_or t (k + 3) 0) → {a : Option Site} → FactorSite s f o a → SiteIs s (factor_for s time_field around m) a
+            time-site e S = rw (time-is e, factor-is time_field) at (S around (factor time_field (time-is e)))
 
-            extent-site : q ≡ get_or t (k + 5) 0 → {a : Option Site} → FactorSite s f q a → SiteIs s (factor_for s extent_field around m) a
-            extent-site e S = rw (factor-is extent_field) at (S around (element_in s k (extent_field s k)) (extent-factor e))
+            extent-site : o ≡ linked (get_or t (k + 5) 0) → {a : Option Site} → FactorSite s f o a → SiteIs s (factor_for s extent_field around m) a
+            extent-site e S = rw (extent-is e, factor-is extent_field) at (S around (factor extent_field (extent-is e)))
 
           -- both are put in
-          pub row-both : {d : ℕ} → d ≡ get_or inst (6 * u + 1) 0 → {sites sites₁ sites₂ : List ℕ} {q q' : ℕ} {a a' : Option Site} → SiteRow s sites i (factor_field s (get_or (instances s) u []))
-              → q ≡ get_or t (k + 3) 0 → FactorSite s f q a → sites₁ ≡ sets sites (16 * i + 2 * d) (site_cells a)
-              → q' ≡ get_or t (k + 5) 0 → FactorSite s f q' a' → sites₂ ≡ sets sites₁ (16 * i + 2 * (4 + d)) (site_cells a')
+          pub row-both : {d : ℕ} → d ≡ get_or inst (6 * u + 1) 0 → {sites sites₁ sites₂ : List ℕ} {o o' : Option ℕ} {a a' : Option Site} → SiteRow s sites i (factor_field s (get_or (instances s) u []))
+              → o ≡ linked (get_or t (k + 3) 0) → FactorSite s f o a → sites₁ ≡ sets sites (16 * i + 2 * d) (site_cells a)
+              → o' ≡ linked (get_or t (k + 5) 0) → FactorSite s f o' a' → sites₂ ≡ sets sites₁ (16 * i + 2 * (4 + d)) (site_cells a')
               → SitesTo s sites₂ (i + 1)
           unfolding around
-          row-both {d} d-is {sites} {sites₁} {sites₂} g e S o e' S' o' =
+          row-both {d} d-is {sites} {sites₁} {sites₂} g e S p e' S' p' =
               let n-is : d ≡ length around = deep d-is in
               let low = shallow d-is in
-              row_done (row_put (row_put g d (omega arith) (time-site e S) o) (4 + d) (omega arith) (extent-site e' S') o')
+              row_done (row_put (row_put g d (omega arith) (time-site e S) p) (4 + d) (omega arith) (extent-site e' S') p')
               (λ j h.
               by_cases (eqb j (4 + d))
               (λ c. rw c (sym (whole j ∙ rw (eqb-true j (4 + d) c ∙ ap (λ (n : ℕ). 4 + n) n-is) (extent-field s around m))))

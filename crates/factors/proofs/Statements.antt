@@ -6,11 +6,10 @@ use mathlib.Core.Bool.{false}
 use mathlib.Core.List.{List}
 use lib.ListN.{length, take, drop}
 use Rattle.names.specs.Names.{is_blank}
-use Rattle.names.proofs.Judging.{row-none}
 use Rattle.flat_table.specs.Table.{flat_width}
 use Rattle.recipe.specs.Records.{extent_field, time_field}
 use Rattle.tree.specs.Tree.{most_depth}
-use Rattle.compose.specs.Rows.{refusal_rows}
+use Rattle.compose.specs.Rows.{Unrefused}
 use Rattle.composer.specs.declared.Answer.{Answer}
 use Rattle.composer.specs.Verdicts.{name_width, recipe_of, verdict, written}
 use Rattle.composer.proofs.Demand.{twelve}
@@ -62,6 +61,9 @@ module _ (recipe before entries after entries' : List ℕ) (a : FactorsAnswer) (
     unfolding recipe_of name_width
     table_is = entry-bytes-are (recipe_of recipe) before entries a answers accepts twelve leaves'
 
+    sound : Unrefused (recipe_of recipe)
+    sound = clear (recipe_of recipe) before entries a answers accepts
+
     low : {i : ℕ} → i < a.entries → i < length (rated (recipe_of recipe))
     low l = rw counted at l
 
@@ -69,17 +71,13 @@ module _ (recipe before entries after entries' : List ℕ) (a : FactorsAnswer) (
     pub entry-is : (i : ℕ) → i < a.entries → entry_of name_width table i ≡ companion_record (recipe_of recipe) (rated_at (recipe_of recipe) i)
     unfolding recipe_of name_width
     entry-is i l =
-        let h = clear (recipe_of recipe) before entries a answers accepts in
-        let rows = refusal_rows (recipe_of recipe) in
-        rw table_is (entry_at (recipe_of recipe) twelve (row-none 3 rows h) (row-none 5 rows h) (row-none 7 rows h) i (low l))
+        rw table_is (entry_at (recipe_of recipe) twelve sound i (low l))
 
     -- no two have one name,
     pub one_name : (i j : ℕ) → i < a.entries → j < a.entries → entry_field name_width table i 0 ≡ entry_field name_width table j 0 → i ≡ j
     unfolding recipe_of name_width
     one_name i j l m e =
-        let h = clear (recipe_of recipe) before entries a answers accepts in
-        let rows = refusal_rows (recipe_of recipe) in
-        one_entry (recipe_of recipe) twelve (row-none 3 rows h) (row-none 5 rows h) (row-none 7 rows h) (row-none 4 rows h) i j (low l) (low m) (rw table_is at e)
+        one_entry (recipe_of recipe) twelve sound i j (low l) (low m) (rw table_is at e)
 
     -- and "bytes past the entries are unchanged"
     pub unchanged : drop (entry_length name_width * a.entries) entries' ≡ drop (entry_length name_width * a.entries) entries
@@ -93,17 +91,13 @@ module _ (recipe before entries after entries' : List ℕ) (a : FactorsAnswer) (
           → FactorNamed (recipe_of recipe) time_field (rated_at (recipe_of recipe) i).path k (entry_field name_width table i (suc k))
       unfolding recipe_of name_width
       time-factor b =
-          let h = clear (recipe_of recipe) before entries a answers accepts in
-          let rows = refusal_rows (recipe_of recipe) in
           rw table_is
-          (time-named (recipe_of recipe) twelve (row-none 3 rows h) (row-none 5 rows h) (row-none 7 rows h) (row-none 4 rows h) (row-none 20 rows h) i (low l) k m (rw table_is at b))
+          (time-named (recipe_of recipe) twelve sound i (low l) k m (rw table_is at b))
 
       -- and the extent factor
       pub extent-factor : is_blank (entry_field name_width table i (4 + suc k)) ≡ false
           → FactorNamed (recipe_of recipe) extent_field (rated_at (recipe_of recipe) i).path k (entry_field name_width table i (4 + suc k))
       unfolding recipe_of name_width
       extent-factor b =
-          let h = clear (recipe_of recipe) before entries a answers accepts in
-          let rows = refusal_rows (recipe_of recipe) in
           rw table_is
-          (extent-named (recipe_of recipe) twelve (row-none 3 rows h) (row-none 5 rows h) (row-none 7 rows h) (row-none 4 rows h) (row-none 20 rows h) i (low l) k m (rw table_is at b))
+          (extent-named (recipe_of recipe) twelve sound i (low l) k m (rw table_is at b))

@@ -1,6 +1,6 @@
 -- What the writers of the companion are given: the elements, and where the eight factors of each instance are.
 -- Assumes nothing.
-use Rattle.std.specs.Prelude.{ℕ, suc, ◌+◌, ◌*◌, ◌-◌, ◌≤◌, ◌<◌, cond, List, [], ◌∷◌, map, ◌≡◌, ltb, get_or, length, take, None, Option, Some, option_map}
+use Rattle.std.specs.Prelude.{ℕ, suc, ◌+◌, ◌*◌, ◌-◌, ◌≤◌, ◌<◌, cond, List, [], ◌∷◌, map, ◌≡◌, ltb, get_or, length, take, IfSome, None, Option, Some, option_map}
 use Rattle.names.specs.Lists.{joined}
 use Rattle.flat_table.specs.Table.{flat_width}
 use Rattle.recipe.specs.Records.{Recipe, extent_field, time_field}
@@ -8,10 +8,9 @@ use Rattle.tree.specs.Numbers.{run}
 use Rattle.tree.specs.Tree.{Node, instances, most_depth, node}
 use Rattle.marks.specs.Marks.{chain_end}
 use Rattle.factor_ends.specs.FactorEnds.{Factor}
-use Rattle.flat_names.specs.Rows.{Naming}
 use Rattle.composer.specs.Flat.{flat_field}
 use Rattle.composer.specs.declared.Site.{Site}
-use Rattle.composer.specs.Writing.{SiteInTree, linked_site, site_of}
+use Rattle.composer.specs.Writing.{linked_site, site_of}
 use Rattle.factors.specs.Companion.{factor_at}
 
 -- the factor of field number j of an entry, for an element of the instance at the path: 0 to 3 the time factors, 4 to 7 the extent factors
@@ -22,14 +21,14 @@ factor_field s path j = cond (ltb j most_depth) (factor_at s time_field path (su
 abbrev pub fields_to : Recipe → List ℕ → ℕ → List ℕ
 fields_to s path n = joined (map (λ j. flat_field s (factor_field s path j)) (run 0 n))
 
--- the site is where o is
+-- the site is where o is: in an instance, and at a record, none of which stands at 0
 pub record SiteIs (s : Recipe) (o : Option Node) (x : Option Site) : Type 0 where
   pub is : site_of s x ≡ o
-  pub inside : SiteInTree s x
+  pub inside : IfSome x (λ y. (y.inst < length (instances s)) × (0 < y.place))
 
--- where the end of the chain is from the factor that f and q stand for, whichever it is
-abbrev pub FactorSite : Recipe → ℕ → ℕ → Option Site → Type 0
-FactorSite s f q x = (path : List ℕ) (o : Option ℕ) → Factor s f q path o → SiteIs s (option_map (chain_end s) (option_map (node path) o)) x
+-- where the end of the chain is from the element o, or none, in whichever instance whose first element has the number f
+abbrev pub FactorSite : Recipe → ℕ → Option ℕ → Option Site → Type 0
+FactorSite s f o x = (path : List ℕ) → Factor s f path o → SiteIs s (option_map (chain_end s) (option_map (node path) o)) x
 
 -- a site in two cells of the table: the instance and the record, which is 0 for none
 unfoldable pub site_cells : Option Site → List ℕ
@@ -52,10 +51,3 @@ Sited s sites = SitesTo s sites (length (instances s))
 -- the eight fields of the entries of instance i are at the start of the row
 abbrev pub RowFor : Recipe → ℕ → List ℕ → Type 0
 RowFor s i row = take (8 * flat_width s.width) row ≡ fields_to s (get_or (instances s) i []) 8
-
--- what writing these fields takes, beside the prefixes
-pub record RowRequires (s : Recipe) (sites row : List ℕ) (i : ℕ) : Type 0 where
-  pub naming : Naming s
-  pub sited : Sited s sites
-  pub low : i < length (instances s)
-  pub room : 2624 ≤ length row

@@ -3,6 +3,7 @@
 #![tactic(auto)]
 
 ghost use Rattle.std.specs.Prelude.{◌≡◌, ◌++◌, ◌+◌, ◌*◌, ◌<◌, ◌≤◌, length, drop, IfSome};
+ghost use Rattle.std.proofs.Props.{props};
 ghost use Rattle.std.proofs.lemmas.List.Edits.{sets};
 ghost use Rattle.names.specs.Judging.{row_number};
 ghost use Rattle.flat_table.specs.Table.{flat_length};
@@ -15,13 +16,15 @@ ghost use Rattle.composer.specs.Flat.{flat};
 ghost use Rattle.composer.specs.Verdicts.{recipe_of};
 ghost use Rattle.composer.specs.Writing.{element_at};
 ghost use Rattle.factors.specs.Companion.{is_rated, rated, companion, entry_length, factors_refused, factors_verdict, table_after, companion_after};
-ghost use Rattle.factors.specs.Sites.{site_cells, stored_site, FactorSite, SitesTo, Sited, RowFor, RowRequires};
+ghost use Rattle.factors.specs.Sites.{site_cells, stored_site, FactorSite, SitesTo, Sited, RowFor};
 
-use compose::{Composition, Rooms};
-use composer::{Site, Survivors};
-use flat_names::Prefixes;
+use compose::{Arrays, Composition};
+use composer::{Fates, Site, Survivors, Writer};
+use factor_ends::Chains;
+use flat_names::{PrefixRooms, Prefixes};
 use flat_table::Class;
 use names::{Reason, Refusal};
+use recipe::Kind;
 use shadow::cell;
 
 // Sixteen for each of 64 instances: the instance and the record of eight factors.
@@ -54,8 +57,7 @@ fn is_rated(c: &Composition, e: usize) -> bool
     requires { e < length (tree_elements (recipe c.now.tree.source.now)) }
     ensures { result ≡ is_rated (recipe c.now.tree.source.now) (element_at (recipe c.now.tree.source.now) e) }
 {
-    let s = c.tree.source;
-    let k = s.bytes[Site::of(c.elements, e).place + 1 + s.width];
+    let k = references::class_of(&c.tree.aims(), c.elements, e);
     (k == Class::Reaction as u8) | (k == Class::RateRule as u8)
 }
 
@@ -63,15 +65,21 @@ fn is_rated(c: &Composition, e: usize) -> bool
 fn count_entries(c: &Composition) -> usize
     ensures { result ≡ length (rated (recipe c.now.tree.source.now)) }
 {
-    Survivors::of(c).filter(|&e| is_rated(c, e)).count()
+    Survivors::of(&Fates::of(c))
+        .filter(|&e| is_rated(c, e))
+        .count()
 }
 
-// Where the end of the chain is from the factor at q, in the instance whose first element has the number f.
-fn factor_site(c: &Composition, f: usize, q: usize) -> Option<Site>
-    requires { FactorAt (recipe c.now.tree.source.now) f q }
-    ensures { FactorSite (recipe c.now.tree.source.now) f q result × IfSome result (λ x. (x.inst < 65536) × (x.place < 65536)) }
+// Where the end of the chain is from the element that a factor names, if it names one, in the instance whose first element has the number f.
+fn factor_site(c: &Composition, f: usize, named: Option<usize>) -> Option<Site>
+    requires { FactorAt (recipe c.now.tree.source.now) f named }
+    ensures { FactorSite (recipe c.now.tree.source.now) f named result × IfSome result (λ x. (x.inst < 65536) × (x.place < 65536)) }
 {
-    let z = factor_ends::factor_end(&c.tree, c.elements, f, q)?;
+    let chains = Chains {
+        aims: c.tree.aims(),
+        elements: c.elements,
+    };
+    let z = chains.factor_end(f, named)?;
     Some(Site::of(c.elements, z))
 }
 
@@ -108,9 +116,9 @@ fn fill_row(c: &Composition, i: usize, sites: &mut [u16])
         return;
     };
     let f = cell(inst, 6 * u, tree::FIRST_ELEMENT);
-    let x = factor_site(c, f, cell(t, k, shadow::TIME_FACTOR));
+    let x = factor_site(c, f, shadow::link(t, k, shadow::TIME_FACTOR));
     put_site(sites, 16 * i + 2 * d, x);
-    let y = factor_site(c, f, cell(t, k, shadow::EXTENT_FACTOR));
+    let y = factor_site(c, f, shadow::link(t, k, shadow::EXTENT_FACTOR));
     put_site(sites, 16 * i + 2 * (4 + d), y);
 }
 
@@ -119,56 +127,70 @@ fn fill_sites(c: &Composition, sites: &mut [u16])
     requires { SitesTo (recipe c.now.tree.source.now) sites.old 1 }
     ensures { Sited (recipe c.now.tree.source.now) sites.new }
 {
-    for i in 1..c.tree.size.insts {
+    for i in 1..c.size.insts {
         fill_row(c, i, sites);
     }
 }
 
-// Writes the eight fields of the factors of instance i.
-fn put_factors(prefixes: &Prefixes, sites: &[u16], i: usize, row: &mut [u8])
-    requires { RowRequires (recipe prefixes.now.source.now) sites.now row.old i }
-    ensures { RowFor (recipe prefixes.now.source.now) i row.new }
-{
-    let f = composer::field_width(prefixes.source.width);
-    for j in 0..8usize {
-        let site = site_in(sites, 16 * i + 2 * j);
-        composer::put_field(prefixes, site, row, j * f);
-    }
+// What the entries are written of: what composing leaves, the prefixes, and where the eight factors of each instance are.
+#[derive(Clone, Copy)]
+struct FactorSites<'a> {
+    composition: &'a Composition<'a>,
+    prefixes: Prefixes<'a>,
+    sites: &'a [u16],
+    ghost alike: { recipe prefixes.source.now ≡ recipe composition.now.tree.source.now } by { Prim.hlevel props },
+    ghost sited: { Sited (recipe composition.now.tree.source.now) sites.now } by { Prim.hlevel props },
 }
 
-// The same, where the row has those of the instance `kept` already, if any.
-fn keep_factors(prefixes: &Prefixes, sites: &[u16], i: usize, kept: Option<usize>, row: &mut [u8])
-    requires { let s = recipe prefixes.now.source.now in RowRequires s sites.now row.old i × IfSome kept (λ k. RowFor s k row.old) }
-    ensures { RowFor (recipe prefixes.now.source.now) i row.new }
-{
-    if kept == Some(i) {
-        return;
-    }
-    put_factors(prefixes, sites, i, row);
-}
-
-// Writes the companion: the entry of each survivor of class 4 or 6, in tree order. The elements of an instance stand together, so that its factors are written out once.
-fn write_companion(c: &Composition, prefixes: &Prefixes, sites: &[u16], out: &mut [u8])
-    requires { let s = recipe c.now.tree.source.now in (recipe prefixes.now.source.now ≡ s) × (Sited s sites.now × (entry_length s.width * length (rated s) ≤ length out.old)) }
-    ensures { let s = recipe c.now.tree.source.now in out.new ≡ companion s ++ drop (length (companion s)) out.old }
-{
-    let w = c.tree.source.width;
-    let f = composer::field_width(w);
-    let n = entry_width(w);
-    let mut row = [0u8; ROW_BYTES];
-    let mut kept = None;
-    let mut p = 0usize;
-    for e in Survivors::of(c) {
-        if !is_rated(c, e) {
-            continue;
+impl<'a> FactorSites<'a> {
+    // Writes the eight fields of the factors of instance i.
+    fn put_factors(&self, i: usize, row: &mut [u8])
+        requires { (i < length (instances (recipe self.now.composition.now.tree.source.now))) × (2624 ≤ length row.old) }
+        ensures { RowFor (recipe self.now.composition.now.tree.source.now) i row.new }
+    {
+        let c = self.composition;
+        let f = composer::field_width(c.tree.source.width);
+        for j in 0..8usize {
+            let site = site_in(self.sites, 16 * i + 2 * j);
+            composer::put_field(&self.prefixes, site, row, j * f);
         }
-        let x = Site::of(c.elements, e);
-        keep_factors(prefixes, sites, x.inst, kept, &mut row);
-        kept = Some(x.inst);
-        out[p] = 8;
-        prefixes.put_name(x.inst, x.place, out, p + 1);
-        names::put_bytes(&row, 0, 8 * f, out, p + 1 + f);
-        p += n;
+    }
+
+    // The same, where the row has those of the instance `kept` already, if any.
+    fn keep_factors(&self, i: usize, kept: Option<usize>, row: &mut [u8])
+        requires { let s = recipe self.now.composition.now.tree.source.now in ((i < length (instances s)) × (2624 ≤ length row.old)) × IfSome kept (λ k. RowFor s k row.old) }
+        ensures { RowFor (recipe self.now.composition.now.tree.source.now) i row.new }
+    {
+        if kept == Some(i) {
+            return;
+        }
+        self.put_factors(i, row);
+    }
+
+    // Writes the companion: the entry of each survivor of class 4 or 6, in tree order. The elements of an instance stand together, so that its factors are written out once.
+    fn write_companion(&self, out: &mut [u8])
+        requires { let s = recipe self.now.composition.now.tree.source.now in entry_length s.width * length (rated s) ≤ length out.old }
+        ensures { let s = recipe self.now.composition.now.tree.source.now in out.new ≡ companion s ++ drop (length (companion s)) out.old }
+    {
+        let c = self.composition;
+        let w = c.tree.source.width;
+        let f = composer::field_width(w);
+        let n = entry_width(w);
+        let mut row = [0u8; ROW_BYTES];
+        let mut kept = None;
+        let mut p = 0usize;
+        for e in Survivors::of(&Fates::of(c)) {
+            if !is_rated(c, e) {
+                continue;
+            }
+            let x = Site::of(c.elements, e);
+            self.keep_factors(x.inst, kept, &mut row);
+            kept = Some(x.inst);
+            out[p] = Kind::Factors as u8;
+            self.prefixes.put_name(x.inst, x.place, out, p + 1);
+            names::put_bytes(&row[..8 * f], out, p + 1 + f);
+            p += n;
+        }
     }
 }
 
@@ -191,21 +213,17 @@ fn write_both(c: &Composition, table: &mut [u8], entries: &mut [u8])
     requires { let s = recipe c.now.tree.source.now in (flat_length s.width * length (survivors s) ≤ length table.old) × (entry_length s.width * length (rated s) ≤ length entries.old) }
     ensures { let s = recipe c.now.tree.source.now in (table.new ≡ flat s ++ drop (length (flat s)) table.old) × (entries.new ≡ companion s ++ drop (length (companion s)) entries.old) }
 {
-    let mut bytes = [0u8; flat_names::PREFIX_BYTES];
-    let mut lengths = [0u16; flat_names::PREFIX_ROWS];
+    let mut rooms = PrefixRooms::new();
     let mut sites = [0u16; SITE_CELLS];
-    let tree = c.tree;
-    let prefixes = Prefixes::fill(
-        tree.source,
-        tree.shadow,
-        tree.instances,
-        tree.size.insts,
-        &mut bytes,
-        &mut lengths,
-    );
-    composer::write_table(c, &prefixes, table);
+    let from = Writer::of(c, &mut rooms);
+    composer::write_table(&from, table);
     fill_sites(c, &mut sites);
-    write_companion(c, &prefixes, &sites, entries);
+    FactorSites {
+        composition: c,
+        prefixes: from.prefixes,
+        sites: &sites,
+    }
+    .write_companion(entries);
 }
 
 // Row 13, of a recipe that no other row refuses; where it does not apply, both tables.
@@ -218,7 +236,7 @@ fn flatten_composed(c: &Composition, table: &mut [u8], entries: &mut [u8]) -> Fa
         place: 0,
     };
     let w = c.tree.source.width;
-    let count = composer::count_survivors(c);
+    let count = composer::count_survivors(&Fates::of(c));
     let k = count_entries(c);
     let bytes = count * composer::record_width(w);
     if table.len() < bytes {
@@ -245,8 +263,8 @@ pub fn bandrolt_flatten_with_factors(
 ) -> FactorsAnswer
     ensures { (result ≡ factors_verdict (recipe_of recipe.now) (length table.old) (length companion.old)) × ((table.new ≡ table_after (recipe_of recipe.now) table.old (length companion.old)) × (companion.new ≡ companion_after (recipe_of recipe.now) (length table.old) companion.old)) }
 {
-    let mut rooms = Rooms::new();
-    match compose::compose(&composer::source(recipe), &mut rooms) {
+    let mut arrays = Arrays::new();
+    match compose::compose(&composer::source(recipe), arrays.rooms()) {
         Err(refusal) => FactorsAnswer::from(refusal),
         Ok(c) => flatten_composed(&c.with_source(&composer::source(recipe)), table, companion),
     }

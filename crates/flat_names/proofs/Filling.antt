@@ -17,8 +17,7 @@ use Rattle.tree.specs.Tree.{instances, paths_below, most_depth, Submodels}
 use Rattle.tree.specs.Planted.{Planted}
 use Rattle.tree.proofs.Instances.{instance-path}
 use Rattle.flat_names.specs.Prefixes.{prefix, with_underscores, names_around, fewest}
-use Rattle.flat_names.specs.Rows.{Naming, RowsTo, Prefixed, prefixes_of, row_width}
-use Rattle.names.proofs.Stores.{Copied, copied-one}
+use Rattle.flat_names.specs.Rows.{Naming, RowsTo, prefixes_of, row_width}
 use Rattle.std.specs.List.{copy_within}
 use native.Mathlib.Nat.{add-sub_cancel_left}
 use Rattle.flat_names.proofs.Puts.{parts, pasted, prefixes-short, rows-below, row_inside}

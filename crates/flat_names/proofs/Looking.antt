@@ -182,7 +182,7 @@ module _ {s : Recipe} {t : List ℕ} {d m u₀ p u : ℕ} (x : Numbered s t) (i 
     here = met s (is_declared s) d x.shadowed.whole g.goes l
 
     held_by : h ≡ holder s p
-    held_by = e ∙ x.held p here.place
+    held_by = e ∙ x.held p here.reached.place
 
     pub at_other : (h ≡ d → ⊥) → u ≡ last_try (name s m) (declared_names s d) u₀
     at_other other = none_left (rest-stop s (is_declared s) d x.shadowed.whole i here (λ q. other (held_by ∙ q)))
@@ -195,7 +195,7 @@ module _ {s : Recipe} {d m u₀ p u : ℕ} (o : Own s d m u₀ p u) where
   own-met = met s (is_declared s) d o.whole o.look.goes o.low
 
   pub own-declared : eqb (get_or s.bytes p 0) 2 || eqb (get_or s.bytes p 0) 4 ≡ true → p + 1 + s.width < length s.bytes
-  own-declared k = declared-room s o.wide p own-met.place (declared-is s p k)
+  own-declared k = declared-room s o.wide p own-met.reached.place (declared-is s p k)
 
   module _ {n : ℕ} (len : n ≡ record_length s.width (get_or s.bytes p 0)) where
     own-next : p + n ≡ next s p

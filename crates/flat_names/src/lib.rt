@@ -1,5 +1,5 @@
 // Flat names: the prefix of each instance, and the flat name of an element, written into a table.
-// For the floors above: Prefixes, the table of prefixes, its sizes, and its put_name; put_zeros; name_length, count_underscores, fewest_underscores, for who looks for a prefix and writes none.
+// For the floors above: Prefixes, the table of prefixes, and its put_name; PrefixRooms, its rooms, and the most rows; put_zeros; name_length, count_underscores, fewest_underscores, for who looks for a prefix and writes none.
 // They take the recipe s, of a name width of 12 to 64, its shadow, and the rows of the instances. A count of underscores is a byte wherever it is kept or passed on.
 #![tactic(auto)]
 
@@ -19,12 +19,31 @@ ghost use Rattle.flat_names.specs.Rows.{Naming, Prefixed, row_width};
 
 use names::field_at;
 use recipe::{Kind, Source};
-use shadow::cell;
+use shadow::{cell, number_at};
 
 // The most rows, one for each instance, and their bytes, for names of 64 bytes.
 pub const PREFIX_ROWS: usize = 64;
 
-pub const PREFIX_BYTES: usize = 16896;
+const PREFIX_BYTES: usize = 16896;
+
+// The rooms of a table of prefixes: the bytes of its rows, and their lengths.
+#[derive(Drop)]
+pub struct PrefixRooms {
+    pub bytes: [u8; PREFIX_BYTES],
+    pub lengths: [u16; PREFIX_ROWS],
+}
+
+impl PrefixRooms {
+    // Rooms with nothing in them.
+    pub fn new() -> PrefixRooms
+        ensures { (result.bytes ≡ replicate 16896 0) × (result.lengths ≡ replicate 64 0) }
+    {
+        PrefixRooms {
+            bytes: [0; PREFIX_BYTES],
+            lengths: [0; PREFIX_ROWS],
+        }
+    }
+}
 
 // The table of prefixes: a row of bytes for each instance of a recipe, and how many of them its prefixes are.
 #[derive(Clone, Copy)]
@@ -43,14 +62,6 @@ fn row_width(w: usize) -> usize
     4 * w + 8
 }
 
-// The number at i of a table of numbers.
-pub fn number_at(t: &[u16], i: usize) -> usize
-    requires { i < length t.now }
-    ensures { result ≡ get_or t.now i 0 }
-{
-    recipe::wide(t[i])
-}
-
 // Writes n zeros from `at` on.
 pub fn put_zeros(out: &mut [u8], at: usize, n: usize)
     requires { at + n ≤ length out.old }
@@ -67,13 +78,13 @@ pub fn name_length(s: &Source, p: usize) -> usize
     names::unpadded(field_at(s.bytes, p + 1, s.width)).len()
 }
 
-// With how many underscores the n bytes from a on begin.
-pub fn count_underscores(s: &[u8], a: usize, n: usize) -> u8
-    requires { (a + n ≤ length s.now) × (n ≤ 64) }
-    ensures { result ≡ run_first (take n (drop a s.now)) }
+// With how many underscores the bytes of f begin.
+pub fn count_underscores(f: &[u8]) -> u8
+    requires { length f.now ≤ 64 }
+    ensures { result ≡ run_first f.now }
 {
     let mut k = 0;
-    for b in &s[a..a + n] {
+    for b in f {
         if *b != b'_' {
             return k;
         }
@@ -95,7 +106,7 @@ fn run_behind(s: &Source, p: usize, m: usize, n: usize) -> u8
     if !names::is_same(field_at(s.bytes, a, n), field_at(s.bytes, b, n)) {
         return 0;
     }
-    count_underscores(s.bytes, a + n, s.width - n)
+    count_underscores(field_at(s.bytes, a + n, s.width - n))
 }
 
 // The count u after the names of definition d were looked at: each that has as many underscores behind the name of m, of n bytes, raises it.
@@ -157,7 +168,7 @@ fn put_row(
     let n = name_length(s, m);
     let u = fewest_underscores(s, t, m);
     pre.copy_within(from..from + l, to);
-    names::put_bytes(s.bytes, m + 1, n, pre, to + l);
+    names::put_bytes(field_at(s.bytes, m + 1, n), pre, to + l);
     let end = put_underscores(pre, to + (l + n), u);
     end - to
 }
@@ -207,8 +218,8 @@ impl<'a> Prefixes<'a> {
         let s = self.source;
         let row = row_width(s.width);
         let l = number_at(self.lengths, i);
-        names::put_bytes(self.bytes, i * row, l, out, at);
-        names::put_bytes(s.bytes, q + 1, s.width, out, at + l);
+        names::put_bytes(field_at(self.bytes, i * row, l), out, at);
+        names::put_bytes(field_at(s.bytes, q + 1, s.width), out, at + l);
         put_zeros(out, at + (l + s.width), row - l);
     }
 }

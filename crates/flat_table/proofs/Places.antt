@@ -213,11 +213,12 @@ module _ (x : IndexedRows) where
   pub answered-row : (f : ℕ → Bool) {p : ℕ} {o : Option ℕ} → o ≡ scan f (count x.names.records) → o ≡ Some p → RowAt x.rows.bytes.now x.rows.layout (p * x.rows.layout.stride)
   answered-row f {p} z u = let b = scan-below f (count x.names.records) p (sym z ∙ u) in row_at x.rows.fields (omega (arith, x.count))
 
--- the record that a name leads to is whole
-pub named-row : {t : List ℕ} {l : Layout} {q : ℕ} (g : List ℕ) {o : Option ℕ} → Fields l → o ≡ row_named l.width l.stride t g → o ≡ Some q → RowAt t l q
-named-row {t} {l} {q} g f e z =
+-- the record that a name leads to is whole, so that its kind byte stands in the table
+pub named-inside : (t : List ℕ) {l : Layout} {q : ℕ} (g : List ℕ) {o : Option ℕ} → Fields l → o ≡ row_named l.width l.stride t g → o ≡ Some q → q < length t
+named-inside t {l} {q} g f e z =
     let m = some-map (λ p. p * l.stride) (scan (λ p. same (name_of t l p) g) (length t / l.stride)) q (sym (named t l (length t / l.stride) f refl g) ∙ (sym e ∙ z)) in
-    rw m.2 (row_at f (scan-below (λ p. same (name_of t l p) g) (length t / l.stride) m.0 m.1))
+    let r : RowAt t l q = rw m.2 (row_at f (scan-below (λ p. same (name_of t l p) g) (length t / l.stride) m.0 m.1)) in
+    omega (arith, r.room, r.fields.three)
 
 -- ---- the index that is built
 pub few : (t : List ℕ) (s : ℕ) → length t ≤ 1024 * s → length t / s ≤ 1024

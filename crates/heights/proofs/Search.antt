@@ -1,16 +1,18 @@
 -- The search for what a definition reaches: marks and queue as they grow, and what they say when all is expanded.
 -- Assumes nothing.
+use Rattle.std.specs.Prelude.{Some}
 use mathlib.Core.Path.{◌≡◌, refl, sym, ap, ◌∙◌}
+use mathlib.Core.Logic.{⊎_elim}
 use Prim.Native.Nat.{ℕ, zero, suc, ◌+◌, ◌/◌, ◌≤◌, ◌<◌}
 use native.Mathlib.Omega.{arith}
-use mathlib.Core.Bool.{Bool, true, false}
+use mathlib.Core.Bool.{Bool, true, false, false≢true}
 use mathlib.Core.List.{List, [], ◌∷◌}
 use lib.ListN.{length, get_or, set, replicate, length-set, length-replicate}
 use lib.Seq.{get_or-set_same, get_or-set_other}
 use lib.Dec.{eqb, ltb}
-use borrow.Author.Tests.{eqb-true, eqb-false, ltb-true, ltb-false}
+use borrow.Author.Tests.{eqb-true, eqb-false, eq-eqb, ltb-true, ltb-false}
 use Rattle.names.specs.Lists.{In}
-use Rattle.names.proofs.Tests.{by_cases, not-both, three, both_ways}
+use Rattle.names.proofs.Tests.{by_cases, not-both, three, both_ways, or_left, or_right, or_cases}
 use Rattle.recipe.specs.Records.{Recipe}
 use Rattle.recipe.specs.Definitions.{definitions, model_of, submodels}
 use Rattle.recipe.specs.Reaching.{Reach, direct, onward, reaches}
@@ -19,7 +21,9 @@ use Rattle.recipe.proofs.Reaching.{plain-reaches, reaches-plain, reach-in, reach
 use Rattle.recipe.proofs.Spans.{definition-place}
 use Rattle.shadow.specs.Columns.{Linked}
 use Rattle.shadow.proofs.Cells.{apart}
-use Rattle.heights.specs.Search.{many, IsMarked, Marks, Marked, ModelBelow}
+use Rattle.heights.specs.declared.Worklist.{Worklist}
+use Rattle.heights.specs.Marks.{many, is_queued, Marks}
+use Rattle.heights.specs.Search.{IsEmpty, IsMarked, Grown, Takes, ModelBelow}
 use Rattle.heights.proofs.Along.{Through, submodel-model, through-on, through-one}
 
 -- ---- how many are marked
@@ -33,88 +37,95 @@ many_low [] = omega arith
 many_low (true ∷ bs) = omega (arith, many_low bs)
 many_low (false ∷ bs) = omega (arith, many_low bs)
 
+-- ---- what is queued
+queued-set : (queue : List ℕ) (t e n j : ℕ) → n ≤ t → is_queued (set queue t e) n j ≡ is_queued queue n j
+queued-set queue t e zero j l = refl
+queued-set queue t e (suc n) j l = rw (get_or-set_other queue t n e 0 (λ q. omega (arith, q)), queued-set queue t e n j (omega arith))
+
+queued_at : (queue : List ℕ) (n j : ℕ) → is_queued queue n j ≡ true → (i : ℕ) × (i < n) × (get_or queue i 0 / 13 ≡ j)
+queued_at queue zero j h = absurd (false≢true h)
+queued_at queue (suc n) j h =
+    ⊎_elim
+    (λ (b : eqb (get_or queue n 0 / 13) j ≡ true). (n, omega arith, eqb-true (get_or queue n 0 / 13) j b))
+    (λ (b : is_queued queue n j ≡ true). let z = queued_at queue n j b in (z.0, omega (arith, z.1), z.2))
+    (or_cases (eqb (get_or queue n 0 / 13) j) (is_queued queue n j) h)
+
 -- ---- one more mark
 module _ {mark : List Bool} {queue : List ℕ} {tail : ℕ} (r : Marks mark queue tail) where
   pub tail-low : tail ≤ 1261
   tail-low = omega (arith, r.counted, r.marks, many_low mark)
 
-  pub marked-none : (P : ℕ → Type 0) → Marked P mark queue tail mark queue tail
-  marked-none P = record { right = r; more = omega arith; keeps = λ j k. k; same = λ i l. refl; new = λ i l u. absurd (omega arith) }
-
   module _ (e : ℕ) (h : e < 16384) (n : get_or mark (e / 13) false ≡ false) where
-    set_there : IsMarked (set mark (e / 13) true) e
-    set_there = get_or-set_same mark (e / 13) true false (omega (arith, r.marks))
-
     many_more : many (set mark (e / 13) true) ≡ tail + 1
     many_more = omega (arith, many-set mark (e / 13) (omega (arith, r.marks)) n, r.counted)
 
     pub queue-room : tail < 1261
     queue-room = omega (arith, many_more, many_low (set mark (e / 13) true), length-set mark (e / 13) true, r.marks)
 
-    set_keeps : (j : ℕ) → get_or mark j false ≡ true → get_or (set mark (e / 13) true) j false ≡ true
-    set_keeps j k = get_or-set_other mark (e / 13) j true false (λ q. not-both (ap (λ (y : ℕ). get_or mark y false) (sym q) ∙ k) n) ∙ k
-
-    queue-same : (i : ℕ) → i < tail → get_or (set queue tail e) i 0 ≡ get_or queue i 0
-    queue-same i l = get_or-set_other queue tail i e 0 (λ q. omega (arith, q))
-
-    queue-new : get_or (set queue tail e) tail 0 ≡ e
+    pub queue-new : get_or (set queue tail e) tail 0 ≡ e
     queue-new = get_or-set_same queue tail e 0 (omega (arith, queue-room, r.queues))
 
-    marks-one : Marks (set mark (e / 13) true) (set queue tail e) (tail + 1)
+    pub marks-one : Marks (set mark (e / 13) true) (set queue tail e) (tail + 1)
     marks-one = record {
       marks = length-set mark (e / 13) true ∙ r.marks;
       queues = length-set queue tail e ∙ r.queues;
       counted = sym many_more;
       queued = λ j k.
-          by_cases (eqb j (e / 13))
-          (λ b. (tail, omega arith, ap (λ (y : ℕ). y / 13) queue-new ∙ sym (eqb-true j (e / 13) b)))
+          let o : tail + 1 ≡ suc tail = omega arith in
+          rw o
+          (by_cases (eqb j (e / 13))
+          (λ b. or_left (eqb (get_or (set queue tail e) tail 0 / 13) j) (is_queued (set queue tail e) tail j) (eq-eqb (get_or (set queue tail e) tail 0 / 13) j (ap (λ (y : ℕ). y / 13) queue-new ∙ sym (eqb-true j (e / 13) b))))
           (λ b.
-          let z = r.queued j (sym (get_or-set_other mark (e / 13) j true false (eqb-false j (e / 13) b)) ∙ k) in
-          (z.0, omega (arith, z.1), ap (λ (y : ℕ). y / 13) (queue-same z.0 z.1) ∙ z.2));
+          or_right (eqb (get_or (set queue tail e) tail 0 / 13) j) (is_queued (set queue tail e) tail j)
+          (queued-set queue tail e tail j (omega arith) ∙ r.queued j (sym (get_or-set_other mark (e / 13) j true false (eqb-false j (e / 13) b)) ∙ k))));
     }
 
-    pub marked-one : Marked (λ x. x ≡ e) mark queue tail (set mark (e / 13) true) (set queue tail e) (tail + 1) × IsMarked (set mark (e / 13) true) e
-    marked-one = (
-      record {
-        right = marks-one;
-        more = omega arith;
-        keeps = set_keeps;
-        same = queue-same;
-        new = λ i l u. let q : i ≡ tail = omega arith in rw q queue-new;
-      },
-      set_there,
-    )
+-- ---- as a search has them
+pub grown-none : (P : ℕ → Type 0) (a : Worklist) → Grown P a a
+grown-none P a = record { head = refl; more = omega arith; keeps = λ j k. k; same = λ i l. refl; new = λ i l u. absurd (omega arith) }
+
+module _ (a : Worklist) (e : ℕ) (h : e < 16384) (n : get_or a.mark (e / 13) false ≡ false) where
+  pub grown-one : {b : Worklist} → b.mark ≡ set a.mark (e / 13) true → b.queue ≡ set a.queue a.tail e → b.head ≡ a.head → b.tail ≡ a.tail + 1 → Grown (λ x. x ≡ e) a b × IsMarked b e
+  grown-one {b} m q f t = (
+    record {
+      head = f;
+      more = omega (arith, t);
+      keeps = λ j k. rw m (get_or-set_other a.mark (e / 13) j true false (λ q. not-both (ap (λ (y : ℕ). get_or a.mark y false) (sym q) ∙ k) n) ∙ k);
+      same = λ i l. rw q (get_or-set_other a.queue a.tail i e 0 (λ q. omega (arith, q)));
+      new = λ i l u. let z : i ≡ a.tail = omega (arith, t) in rw (q, z) (queue-new a.marks e h n);
+    },
+    rw m (get_or-set_same a.mark (e / 13) true false (omega (arith, a.marks.marks))),
+  )
 
 -- ---- the models of the submodels of d are marked, but for those left
-abbrev pub ModelMarked : Recipe → List Bool → ℕ → Type 0
-ModelMarked s mark m = IsMarked mark (model_of s m)
+abbrev pub ModelMarked : Recipe → Worklist → ℕ → Type 0
+ModelMarked s a m = IsMarked a (model_of s m)
 
-pub record ExpandLoop (s : Recipe) (d : ℕ) (mark₀ : List Bool) (queue₀ : List ℕ) (tail₀ : ℕ) (mark : List Bool) (queue : List ℕ) (tail : ℕ) (rs : List ℕ) : Type 0 where
-  pub marked : Marked (ModelBelow s d) mark₀ queue₀ tail₀ mark queue tail
-  pub through : Through (submodels s d) (ModelMarked s mark) rs
+pub record ExpandLoop (s : Recipe) (d : ℕ) (a b : Worklist) (rs : List ℕ) : Type 0 where
+  pub grown : Grown (ModelBelow s d) a b
+  pub through : Through (submodels s d) (ModelMarked s b) rs
 
-module _ {s : Recipe} {d : ℕ} {mark₀ : List Bool} {queue₀ : List ℕ} {tail₀ : ℕ} where
-  module _ {mark : List Bool} {queue rs : List ℕ} {tail : ℕ} (u : ExpandLoop s d mark₀ queue₀ tail₀ mark queue tail rs) where
-    pub expand-on : {t queue' ts : List ℕ} {mark' : List Bool} {tail' e p : ℕ} → Linked s t → rs ≡ p ∷ ts → e ≡ get_or t (p + 3) 0
-        → Marked (λ x. x ≡ e) mark queue tail mark' queue' tail' × IsMarked mark' e → ExpandLoop s d mark₀ queue₀ tail₀ mark' queue' tail' ts
-    expand-on {mark' = mark'} {e = e} {p = p} g h q a =
-        let v = u.marked in
-        let w = a.0 in
-        let i = through-one u.through h in
-        let model : e ≡ model_of s p = q ∙ submodel-model g d p i in
-        record {
-          marked = record {
-            right = w.right;
-            more = omega (arith, v.more, w.more);
-            keeps = λ j k. w.keeps j (v.keeps j k);
-            same = λ i k. w.same i (omega (arith, v.more)) ∙ v.same i k;
-            new = λ j o k.
-                by_cases (ltb j tail)
-                (λ b. let z = ltb-true j tail b in rw (w.same j z) (v.new j o z))
-                (λ b. (p, i, sym (w.new j (ltb-false j tail b) k ∙ model)));
-          };
-          through = through-on u.through (ModelMarked s mark') h (λ m i k. w.keeps (model_of s m / 13) k) (rw model at a.1);
-        }
+module _ {s : Recipe} {d : ℕ} {a b : Worklist} {rs : List ℕ} (u : ExpandLoop s d a b rs) where
+  pub expand-on : {t ts : List ℕ} {c : Worklist} {e p : ℕ} → Linked s t → rs ≡ p ∷ ts → e ≡ get_or t (p + 3) 0
+      → Grown (λ x. x ≡ e) b c × IsMarked c e → ExpandLoop s d a c ts
+  expand-on {c = c} {e = e} {p = p} g h q x =
+      let v = u.grown in
+      let w = x.0 in
+      let i = through-one u.through h in
+      let model : e ≡ model_of s p = q ∙ submodel-model g d p i in
+      record {
+        grown = record {
+          head = w.head ∙ v.head;
+          more = omega (arith, v.more, w.more);
+          keeps = λ j k. w.keeps j (v.keeps j k);
+          same = λ i k. w.same i (omega (arith, v.more)) ∙ v.same i k;
+          new = λ j o k.
+              by_cases (ltb j b.tail)
+              (λ f. let z = ltb-true j b.tail f in rw (w.same j z) (v.new j o z))
+              (λ f. (p, i, sym (w.new j (ltb-false j b.tail f) k ∙ model)));
+        };
+        through = through-on u.through (ModelMarked s c) h (λ m i k. w.keeps (model_of s m / 13) k) (rw model at x.1);
+      }
 
 -- ---- the search
 many_none : (n : ℕ) → many (replicate n false) ≡ 0
@@ -134,12 +145,11 @@ marks-start = record {
   queued = λ j e. not-both e (no-mark 1261 j);
 }
 
--- what is queued is reached from d; what stands below d, and below the first `head` of the queue, is marked
-pub record SearchLoop (s : Recipe) (d : ℕ) (mark : List Bool) (queue : List ℕ) (tail head : ℕ) : Type 0 where
-  pub right : Marks mark queue tail
-  pub sound : (i : ℕ) → i < tail → Reach s d (get_or queue i 0)
-  pub own : (x : ℕ) → ModelBelow s d x → IsMarked mark x
-  pub done : (i : ℕ) → i < head → (x : ℕ) → ModelBelow s (get_or queue i 0) x → IsMarked mark x
+-- what is met is reached from d; what stands below d, and below those that are taken, is marked
+pub record SearchLoop (s : Recipe) (d : ℕ) (a : Worklist) : Type 0 where
+  pub sound : (i : ℕ) → i < a.tail → Reach s d (get_or a.queue i 0)
+  pub own : (x : ℕ) → ModelBelow s d x → IsMarked a x
+  pub done : (i : ℕ) → i < a.head → (x : ℕ) → ModelBelow s (get_or a.queue i 0) x → IsMarked a x
 
 -- two definitions have two marks
 mark-own : {s : Recipe} {t : List ℕ} → Linked s t → (d e : ℕ) → In d (definitions s) → In e (definitions s) → d / 13 ≡ e / 13 → d ≡ e
@@ -150,52 +160,53 @@ mark-own {s} g d e i j q =
     three d e (λ u. absurd (omega (arith, apart c d e k l u))) (λ u. u) (λ u. absurd (omega (arith, apart c e d l k u)))
 
 module _ {s : Recipe} {d : ℕ} where
-  pub search-start : {mark₀ mark : List Bool} {queue₀ queue : List ℕ} {tail : ℕ} → Marked (ModelBelow s d) mark₀ queue₀ 0 mark queue tail × ((x : ℕ) → ModelBelow s d x → IsMarked mark x) → SearchLoop s d mark queue tail 0
-  search-start v = record {
-    right = v.0.right;
-    sound = λ i l. let b = v.0.new i (omega arith) l in direct b.0 b.1 b.2;
+  pub search-start : {a b : Worklist} → IsEmpty a → Grown (ModelBelow s d) a b × ((x : ℕ) → ModelBelow s d x → IsMarked b x) → SearchLoop s d b
+  search-start z v = record {
+    sound = λ i l. let b = v.0.new i (omega (arith, z.1)) l in direct b.0 b.1 b.2;
     own = v.1;
-    done = λ i l. absurd (omega arith);
+    done = λ i l. absurd (omega (arith, z.0, v.0.head));
   }
 
-  module _ {mark : List Bool} {queue : List ℕ} {tail head : ℕ} (f : SearchLoop s d mark queue tail head) where
-    module _ (l : head < tail) where
-      pub head_in : In (get_or queue head 0) (definitions s)
-      head_in = reach-in s (f.sound head l)
+  module _ {a : Worklist} (f : SearchLoop s d a) where
+    -- the next is taken, and the models below it are met
+    pub next_in : {e : ℕ} → a.head < a.tail → e ≡ get_or a.queue a.head 0 → In e (definitions s)
+    next_in l q = rw q (reach-in s (f.sound a.head l))
 
-      pub search-more : {mark' : List Bool} {queue' : List ℕ} {tail' e : ℕ} → e ≡ get_or queue head 0 → Marked (ModelBelow s e) mark queue tail mark' queue' tail' × ((x : ℕ) → ModelBelow s e x → IsMarked mark' x)
-          → SearchLoop s d mark' queue' tail' (head + 1)
-      search-more {mark'} {queue'} {tail'} {e} q v = record {
-        right = v.0.right;
-        sound = λ i k.
-            by_cases (ltb i tail)
-            (λ z. let y = ltb-true i tail z in rw (v.0.same i y) (f.sound i y))
-            (λ z.
-            let b = v.0.new i (ltb-false i tail z) k in
-            reach-append s (rw (sym q) at (f.sound head l)) (direct b.0 b.1 b.2));
-        own = λ x b. v.0.keeps (x / 13) (f.own x b);
-        done = λ i k x b.
-            by_cases (ltb i head)
-            (λ z. v.0.keeps (x / 13) (f.done i (ltb-true i head z) x (rw (v.0.same i (omega (arith, ltb-true i head z))) at b)))
-            (λ z.
-            let y : i ≡ head = omega (arith, ltb-false i head z) in
-            v.1 x (rw (y, v.0.same head l, ← q) at b));
-      }
+    module _ {e : ℕ} {b : Worklist} (k : Takes a (Some e) b) where
+      pub search-more : {c : Worklist} → Grown (ModelBelow s e) b c × ((x : ℕ) → ModelBelow s e x → IsMarked c x) → SearchLoop s d c
+      search-more {c} v =
+          let same : (i : ℕ) → i < a.tail → get_or c.queue i 0 ≡ get_or a.queue i 0 = λ i l. v.0.same i (omega (arith, k.3)) ∙ ap (λ (q : List ℕ). get_or q i 0) k.5 in
+          let keeps : (x : ℕ) → IsMarked a x → IsMarked c x = λ x m. v.0.keeps (x / 13) (rw k.4 m) in
+          record {
+            sound = λ i l.
+                by_cases (ltb i a.tail)
+                (λ z. let y = ltb-true i a.tail z in rw (same i y) (f.sound i y))
+                (λ z.
+                let n = v.0.new i (omega (arith, k.3, ltb-false i a.tail z)) l in
+                reach-append s (rw (sym k.1) at (f.sound a.head k.0)) (direct n.0 n.1 n.2));
+            own = λ x m. keeps x (f.own x m);
+            done = λ i l x m.
+                by_cases (ltb i a.head)
+                (λ z. let y = ltb-true i a.head z in keeps x (f.done i y x (rw (same i (omega (arith, k.0))) at m)))
+                (λ z.
+                let y : i ≡ a.head = omega (arith, ltb-false i a.head z, v.0.head, k.2) in
+                v.1 x (rw (y, same a.head k.0, ← k.1) at m));
+          }
 
-    module _ {t : List ℕ} (g : Linked s t) (l : tail ≤ head) where
+    module _ {t : List ℕ} (g : Linked s t) (l : a.tail ≤ a.head) where
       -- a definition that is marked is queued
-      queued-at : (e : ℕ) → In e (definitions s) → IsMarked mark e → (i : ℕ) × (i < tail) × (get_or queue i 0 ≡ e)
+      queued-at : (e : ℕ) → In e (definitions s) → IsMarked a e → (i : ℕ) × (i < a.tail) × (get_or a.queue i 0 ≡ e)
       queued-at e o k =
-          let z = f.right.queued (e / 13) k in
-          (z.0, z.1, mark-own g (get_or queue z.0 0) e (reach-in s (f.sound z.0 z.1)) o z.2)
+          let z = queued_at a.queue a.tail (e / 13) (a.marks.queued (e / 13) k) in
+          (z.0, z.1, mark-own g (get_or a.queue z.0 0) e (reach-in s (f.sound z.0 z.1)) o z.2)
 
-      complete : {a e : ℕ} → Reach s a e → ((x : ℕ) → ModelBelow s a x → IsMarked mark x) → IsMarked mark e
-      complete {a} {e} (direct m i h) o = o e (m, i, h)
-      complete {a} {e} (onward m i r) o =
-          let z = queued-at (model_of s m) (model_in s a m i) (o (model_of s m) (m, i, refl)) in
-          complete r (λ x b. f.done z.0 (omega (arith, z.1)) x (rw z.2 b))
+      complete : {x e : ℕ} → Reach s x e → ((y : ℕ) → ModelBelow s x y → IsMarked a y) → IsMarked a e
+      complete {x} {e} (direct m i h) o = o e (m, i, h)
+      complete {x} {e} (onward m i r) o =
+          let z = queued-at (model_of s m) (model_in s x m i) (o (model_of s m) (m, i, refl)) in
+          complete r (λ y b. f.done z.0 (omega (arith, z.1)) y (rw z.2 b))
 
-      pub search-end : In d (definitions s) → get_or mark (d / 13) false ≡ reaches s d d
+      pub search-end : In d (definitions s) → get_or a.mark (d / 13) false ≡ reaches s d d
       search-end o =
           both_ways
           (λ e.

@@ -168,11 +168,11 @@ pub record SettleLoop (s : Recipe) (d : ℕ) (t₀ t : List ℕ) (h : ℕ) (rs :
 
 module _ {s : Recipe} {t₀ : List ℕ} {d : ℕ} (x : SettleFromRequires s t₀ d) where
   -- d itself is in progress, or settled already
-  pub meets-itself : {seen : ℕ} → seen ≡ height_of t₀ d → seen ≡ 65535 → IsCyclic s
-  meets-itself q e f = no-cycle s f d x.definition (x.path d x.definition (sym q ∙ e))
+  pub meets-itself : height_of t₀ d ≡ 65535 → IsCyclic s
+  meets-itself e f = no-cycle s f d x.definition (x.path d x.definition e)
 
-  pub settled-already : {seen : ℕ} → (seen ≡ height_of t₀ d) × (seen < 65536) → (seen ≡ 65535 → ⊥) → (seen ≡ 0 → ⊥) → Grows s t₀ t₀ d seen
-  settled-already {seen} q a b = record { partly = x.partly; grown = grown-none t₀; own = rw (← q.0) (settled_is seen (omega arith) (omega (arith, q.1))); height = q.0 }
+  pub settled-already : {h : ℕ} → (h ≡ height_of t₀ d) × (is_settled (height_of t₀ d) ≡ true) → Grows s t₀ t₀ d h
+  settled-already q = record { partly = x.partly; grown = grown-none t₀; own = q.1; height = q.0 }
 
   -- it is not seen yet: now it is in progress
   module _ {t₁ : List ℕ} (q₁ : t₁ ≡ set t₀ (d + 6) 65535) where

@@ -8,6 +8,8 @@ use Rattle.recipe.specs.Reaching.{Reach}
 use Rattle.recipe.specs.Reading.{fault₆}
 use Rattle.shadow.specs.Shadow.{Kept}
 use Rattle.shadow.specs.Columns.{Linked}
+use Rattle.heights.specs.declared.Progress.{Progress}
+use Rattle.heights.specs.declared.Progress.TheVariants.{Unseen, InProgress, Settled}
 
 abbrev pub height_of : List ℕ → ℕ → ℕ
 height_of t d = get_or t (d + 6) 0
@@ -17,6 +19,12 @@ is_unseen h = eqb h 0
 
 abbrev pub is_settled : ℕ → Bool
 is_settled h = ltb 0 h && ltb h 65535
+
+-- how far a definition of height h is
+abbrev pub IsProgress : ℕ → Progress → Type 0
+IsProgress h Unseen = h ≡ 0
+IsProgress h InProgress = h ≡ 65535
+IsProgress h (Settled k) = (k ≡ h) × (is_settled h ≡ true)
 
 -- how many definitions have a height that passes the test
 abbrev pub count_of : (ℕ → Bool) → Recipe → List ℕ → ℕ

@@ -15,9 +15,10 @@ use Rattle.names.specs.Names.{is_name, is_name_or_blank, is_blank, field_at}
 use Rattle.names.proofs.Tests.{by_cases, and_left, and_right, or_left, or_cases, not-both}
 use Rattle.names.proofs.Lists.{none_first}
 use Rattle.flat_table.specs.Classes.{is_class}
-use Rattle.recipe.specs.Records.{Recipe, owned_kind, kind, places, is_readable, is_model, is_element, is_port, is_submodel, is_deletion, is_replacement, is_replaced_by, is_mark, is_factors, class, field, first_field, name, parent_field, reference_field, submodel_field, submodel_offset, model_field, target_field, way, time_field, extent_field}
+use Rattle.recipe.specs.Records.{Recipe, kind_byte, owned_kind, kind, places, is_readable, is_model, is_element, is_port, is_submodel, is_deletion, is_replacement, is_replaced_by, is_mark, is_factors, class, field, first_field, name, parent_field, reference_field, submodel_field, submodel_offset, model_field, target_field, way, time_field, extent_field}
 use Rattle.recipe.specs.Reading.{is_form, ends_with_underscore, is_way, fault₃}
 use Rattle.recipe.specs.Fields.{target_offset, way_of, element_fields, port_fields, submodel_fields, mark_fields, factors_fields, record_of, reading_of}
+use Rattle.recipe.specs.declared.Kind.{Kind}
 use Rattle.recipe.specs.declared.Way.TheVariants.{ByElement, ByPort}
 use Rattle.recipe.specs.declared.ElementFields.{ElementFields}
 use Rattle.recipe.specs.declared.PortFields.{PortFields}
@@ -37,8 +38,8 @@ pub record FieldAt (s : Recipe) (f : List ℕ) (q : ℕ) : Type 0 where
   pub room : q + s.width ≤ length s.bytes
   pub is : field_at s.width s.bytes q ≡ f
 
-pub sought : {s : Recipe} {f : List ℕ} {q k d : ℕ} → FieldAt s f q → is_name f ≡ true → 1 ≤ k → k ≤ 4 → d < 16384 → SoughtIn s (record { kind = k; definition = d; name = q })
-sought a n k₁ k₄ l = record { least = k₁; most = k₄; low = l; room = a.room; reads = rw a.is n }
+pub sought : {s : Recipe} {f : List ℕ} {q d : ℕ} {k : Kind} → FieldAt s f q → is_name f ≡ true → kind_byte k ≤ 4 → d < 16384 → SoughtIn s (record { kind = k; definition = d; name = q })
+sought a n m l = record { most = m; low = l; room = a.room; reads = rw a.is n }
 
 pub optional-at : {s : Recipe} {f : List ℕ} {q : ℕ} → FieldAt s f q → is_name_or_blank f ≡ true → (q + s.width ≤ length s.bytes) × (is_name_or_blank (field_at s.width s.bytes q) ≡ true)
 optional-at a n = (a.room, rw a.is n)
@@ -52,8 +53,8 @@ unfolding is_name_or_blank
 name-at {s} {f} {q} a n = (a.room, rw a.is (or_left (is_name f) (is_blank f) n))
 
 -- a test of the field there
-pub blank-at : {s : Recipe} {f g : List ℕ} {q : ℕ} {b z : Bool} → FieldAt s f q → g ≡ field_at s.width s.bytes q → b ≡ is_blank g → b ≡ z → is_blank f ≡ z
-blank-at a eg eb h = sym (eb ∙ ap is_blank (eg ∙ a.is)) ∙ h
+pub blank-at : {s : Recipe} {f : List ℕ} {q : ℕ} {b z : Bool} → FieldAt s f q → b ≡ is_blank (field_at s.width s.bytes q) → b ≡ z → is_blank f ≡ z
+blank-at a eb h = sym (eb ∙ ap is_blank a.is) ∙ h
 
 module _ (s : Recipe) (p : ℕ) (i : In p (places s)) where
   pub read : is_readable s p ≡ true
@@ -179,7 +180,7 @@ module _ (s : Recipe) (p : ℕ) (i : In p (places s)) where
           (or_cases (is_mark s p) (is_port s p) h)
 
   -- ---- the reader's answer: the kind of the record, and its fields
-  abbrev ReadRight : Record → Type 0
+  abbrev pub ReadRight : Record → Type 0
   ReadRight (Model x) = kind s p ≡ 1
   ReadRight (Element e) = (kind s p ≡ 2) × (e ≡ element_fields s p)
   ReadRight (Port e) = (kind s p ≡ 3) × (e ≡ port_fields s p)

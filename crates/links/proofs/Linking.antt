@@ -1,16 +1,15 @@
 -- What each kind of record names and whether row 5 refuses it, by the answers of its look-ups.
 -- Assumes nothing.
-use Rattle.std.specs.Prelude.{None, Option, Some, cond, is_some, option_map, unwrap_or}
+use Rattle.std.specs.Prelude.{None, Option, Some, cond, is_some, option_map}
 use mathlib.Core.Path.{◌≡◌, refl, sym, ap, ◌∙◌}
 use mathlib.Core.Logic.{⊎_elim}
 use mathlib.Core.Bool.{Bool, true, false, not, ◌&&◌, ◌||◌, true≢false}
 use mathlib.Core.List.{List}
-use Prim.Native.Nat.{ℕ, ◌+◌, ◌≤◌, ◌<◌}
-use native.Mathlib.Omega.{arith}
+use Prim.Native.Nat.{ℕ, ◌+◌, ◌<◌}
 use lib.ListN.{length, get_or}
 use lib.Dec.{eqb, ltb}
 use borrow.Author.Tests.{eqb-true, not-true}
-use Rattle.names.specs.Names.{text, is_blank, is_name, is_name_or_blank, field_at}
+use Rattle.names.specs.Names.{text, is_blank, is_name, field_at}
 use Rattle.names.proofs.Tests.{by_cases, and_left, and_right, or_cases}
 use Rattle.names.proofs.Names.{name-not-blank}
 use Rattle.flat_table.specs.Classes.{parent_allowed}
@@ -23,46 +22,20 @@ use Rattle.recipe.specs.declared.Mark.{Mark}
 use Rattle.recipe.proofs.Bodies.{by-pointer, mark-kind, pointer-kind}
 use Rattle.recipe.proofs.Definitions.{element-in, in-elements}
 use Rattle.recipe.proofs.Going.{class_low}
-use Rattle.recipe.proofs.Spans.{holder-below}
-use Rattle.links.specs.declared.Held.{Held}
 use Rattle.links.specs.declared.Links.{Links}
 use Rattle.record_index.specs.Entries.{record_named}
-use Rattle.links.specs.Links.{RecordRequires, SoughtAt, Unowned, is_pointing, upper_of, lower_of, own_of, links, links_of}
-use Rattle.record_index.proofs.Places.{place-room}
+use Rattle.links.specs.Links.{Unowned, is_pointing, upper, lower, own, links, links_of}
 use Rattle.record_index.proofs.Lookups.{element-look, submodel-look, definition-look}
-use Rattle.links.proofs.Fields.{FieldAt, sought, filled}
-
--- a definition's number fits
-pub held_low : {s : Recipe} {h : Held} → length s.bytes ≤ 16384 → RecordRequires s h → h.definition < 16384
-held_low {s} {h} l x = omega (arith, x.held, holder-below s h.place, place-room s h.place x.placed)
+use Rattle.links.proofs.Fields.{FieldAt}
 
 -- the element that a name names
-element-filled : (s : Recipe) (p : ℕ) (f : List ℕ) → is_blank f ≡ false → element_in s p f ≡ element_named s (holder s p) (text f)
+pub element-filled : (s : Recipe) (p : ℕ) (f : List ℕ) → is_blank f ≡ false → element_in s p f ≡ element_named s (holder s p) (text f)
 unfolding element_in
 element-filled s p f b = rw (b, element_in)
 
-element-blank : (s : Recipe) (p : ℕ) (f : List ℕ) → is_blank f ≡ true → element_in s p f ≡ None
+pub element-blank : (s : Recipe) (p : ℕ) (f : List ℕ) → is_blank f ≡ true → element_in s p f ≡ None
 unfolding element_in
 element-blank s p f b = rw (b, element_in)
-
--- ---- a field that may be blank
-module _ {s : Recipe} {h : Held} (x : RecordRequires s h) (q : ℕ) (room : q + s.width ≤ length s.bytes) (n : is_name_or_blank (field_at s.width s.bytes q) ≡ true)
-    {f : List ℕ} (ef : f ≡ field_at s.width s.bytes q) {b : Bool} (eb : b ≡ is_blank f) where
-  blank-is : is_blank (field_at s.width s.bytes q) ≡ b
-  blank-is = sym (eb ∙ ap is_blank ef)
-
-  pub blank-answer : b ≡ true → None ≡ element_in s h.place (field_at s.width s.bytes q)
-  blank-answer z = sym (element-blank s h.place (field_at s.width s.bytes q) (blank-is ∙ z))
-
-  module _ (z : b ≡ false) where
-    pub filled-sought : length s.bytes ≤ 16384 → SoughtAt s h 2 q
-    filled-sought l = sought (record { room = room; is = refl }) (filled (field_at s.width s.bytes q) n (blank-is ∙ z)) (omega arith) (omega arith) (held_low l x)
-
-    pub filled-answer : {a : Option ℕ} → a ≡ record_named s 2 h.definition (text (field_at s.width s.bytes q)) → a ≡ element_in s h.place (field_at s.width s.bytes q)
-    filled-answer e =
-        e
-        ∙ rw x.held
-        (sym (element-filled s h.place (field_at s.width s.bytes q) (blank-is ∙ z) ∙ element-look s (holder s h.place) (text (field_at s.width s.bytes q))))
 
 -- ---- an element's parent
 module _ (s : Recipe) (p : ℕ) {q : ℕ} (g : FieldAt s (parent_field s p) q) {c : ℕ} (ec : c ≡ class s p) {a : Option ℕ} (ea : a ≡ element_in s p (field_at s.width s.bytes q)) where
@@ -85,23 +58,21 @@ module _ (s : Recipe) (p : ℕ) {q : ℕ} (g : FieldAt s (parent_field s p) q) {
         let r = in-elements s (holder s p) y (element-in s p (parent_field s p) y there).2 in
         class_low s y r.placed r.passes
 
-    pub parent-there : {r : ℕ} {z : Bool} → r ≡ y → z ≡ parent_allowed c (Some (get_or s.bytes (r + 1 + s.width) 0)) → not (ltb r p && z) ≡ is_parent_fault s p
+    pub parent-there : {r d : ℕ} {z : Bool} → r ≡ y → d ≡ get_or s.bytes (r + 1 + s.width) 0 → z ≡ parent_allowed c (Some d) → not (ltb r p && z) ≡ is_parent_fault s p
     unfolding is_parent_fault is_parent class byte
-    parent-there er ez = rw ((element-in s p (parent_field s p) y there).0, there, ez, ec, er)
+    parent-there er ed ez = rw ((element-in s p (parent_field s p) y there).0, there, ez, ed, ec, er)
 
 -- ---- what a record names, or that row 5 refuses it
-pub refused : {b : Bool} (l : Links) {o : Option Links} → cond b None (Some l) ≡ o → b ≡ true → None ≡ o
-refused l e h = rw h at e
-
 pub passed : {b : Bool} (l : Links) {o : Option Links} → cond b None (Some l) ≡ o → b ≡ false → Some l ≡ o
 passed l e h = rw h at e
 
--- one of two look-ups is missing
-pub either : (a o : Option ℕ) (b d : Bool) → is_some a ≡ not b → is_some o ≡ not d → not (is_some a) || not (is_some o) ≡ b || d
-either a o b d e f = rw (e, f) (by_cases b (λ t. rw t) (λ t. rw t (by_cases d (λ u. rw u) (λ u. rw u))))
+-- the second of two look-ups is missing
+pub missing : (f : Option ℕ → Links) (a : Option ℕ) {o : Option Links} → cond (not (is_some a) || true) None (Some (f a)) ≡ o → None ≡ o
+missing f None e = e
+missing f (Some x) e = e
 
 -- of a look-up that must find
-taken : (f : ℕ → Links) (o : Option ℕ) → option_map f o ≡ cond (not (is_some o)) None (Some (f (unwrap_or o 0)))
+taken : (f : Option ℕ → Links) (o : Option ℕ) → option_map (λ x. f (Some x)) o ≡ cond (not (is_some o)) None (Some (f o))
 taken f None = refl
 taken f (Some x) = refl
 
@@ -134,48 +105,44 @@ module _ (s : Recipe) (p : ℕ) where
   unfolding port_fields
   port-begins h = ap (λ (x : PortFields). x.submodel) h
 
-  pub port-unowned : kind s p ≡ 3 → {e : PortFields} → e ≡ port_fields s p → is_blank (submodel_field s p) ≡ false → Unowned s p e.submodel
-  unfolding is_pointing is_mark is_port is_deletion is_replacement is_replaced_by
-  port-unowned k h b = record { pointing = rw (k, b); unowned = rw k; begins = port-begins h }
-
   pub mark-begins : {m : Mark} → m ≡ mark_fields s p → m.submodel ≡ p + 1 + submodel_offset s p
   unfolding mark_fields
   mark-begins h = ap (λ (x : Mark). x.submodel) h
 
-  pub deletion-unowned : kind s p ≡ 5 → {m : Mark} → m ≡ mark_fields s p → is_blank (submodel_field s p) ≡ false → Unowned s p m.submodel
-  unfolding is_pointing is_mark is_port is_deletion is_replacement is_replaced_by
-  deletion-unowned k h b = record { pointing = rw (k, b); unowned = rw k; begins = mark-begins h }
+  pub without-owner : pointer_kind (kind s p) ≡ true → owned_kind (kind s p) ≡ false → is_blank (submodel_field s p) ≡ false → {q : ℕ} → q ≡ p + 1 + submodel_offset s p → Unowned s p q
+  unfolding is_pointing is_replacement is_replaced_by
+  without-owner k o b e = record { pointing = rw (pointer-kind s p, k, b); unowned = o; begins = e }
 
 -- ---- kind by kind
 module _ (s : Recipe) (p : ℕ) where
-  pub model-links : kind s p ≡ 1 → Some (links 0 0 0) ≡ links_of s p
-  unfolding links_of is_undeclared upper_of lower_of own_of is_pointing is_model is_element is_port is_submodel is_mark is_deletion is_replacement is_replaced_by is_factors
+  pub model-links : kind s p ≡ 1 → Some (links None None None) ≡ links_of s p
+  unfolding links_of is_undeclared upper lower own is_pointing is_model is_element is_port is_submodel is_mark is_deletion is_replacement is_replaced_by is_factors
   model-links k = rw k
 
   pub element-links : kind s p ≡ 2 → {u v : ℕ} → FieldAt s (parent_field s p) u → FieldAt s (reference_field s p) v → {b : Bool} {x y : Option ℕ} → b ≡ is_parent_fault s p
-      → x ≡ element_in s p (field_at s.width s.bytes u) → y ≡ element_in s p (field_at s.width s.bytes v) → cond b None (Some (links (unwrap_or x 0) (unwrap_or y 0) 0)) ≡ links_of s p
-  unfolding links_of is_undeclared upper_of lower_of own_of is_model is_element is_port is_factors
+      → x ≡ element_in s p (field_at s.width s.bytes u) → y ≡ element_in s p (field_at s.width s.bytes v) → cond b None (Some (links x y None)) ≡ links_of s p
+  unfolding links_of is_undeclared upper lower own is_model is_element is_port is_factors
   element-links k g h eb ex ey = rw (k, eb, ex, ey, g.is, h.is)
 
   pub element-refused : kind s p ≡ 2 → {b : Bool} → b ≡ is_parent_fault s p → b ≡ true → None ≡ links_of s p
   unfolding links_of is_undeclared is_model is_element is_port
   element-refused k e h = rw (k, ← e, h)
 
-  pub submodel-links : kind s p ≡ 4 → (d : ℕ) {q : ℕ} → FieldAt s (model_field s p) q → {a : Option ℕ} → a ≡ record_named s 1 d (text (field_at s.width s.bytes q))
-      → option_map (λ x. links x 0 0) a ≡ links_of s p
-  unfolding links_of is_undeclared is_model_fault upper_of lower_of own_of is_pointing is_model is_element is_port is_submodel is_mark is_deletion is_replacement is_replaced_by model_of main is_factors
-  submodel-links k d g e = taken (λ x. links x 0 0) _ ∙ rw (k, e, g.is, ← definition-look s d (text (model_field s p)))
+  pub submodel-links : kind s p ≡ 4 → (d : ℕ) {q : ℕ} → FieldAt s (model_field s p) q → {a o : Option ℕ} → a ≡ record_named s 1 d (text (field_at s.width s.bytes q))
+      → a ≡ o → option_map (λ x. links (Some x) None None) o ≡ links_of s p
+  unfolding links_of is_undeclared is_model_fault upper lower own is_pointing is_model is_element is_port is_submodel is_mark is_deletion is_replacement is_replaced_by model_of main is_factors
+  submodel-links k d g e t = taken (λ x. links x None None) _ ∙ rw (k, ← t, e, g.is, ← definition-look s d (text (model_field s p)))
 
   -- a port with a blank submodel
   module _ (k : kind s p ≡ 3) (b : is_blank (submodel_field s p) ≡ true) where
     pub by-port-links : way s p ≡ 1 → None ≡ links_of s p
-    unfolding links_of is_undeclared is_port_fault is_own_port_fault upper_of lower_of own_of is_pointing is_model is_element is_port is_submodel is_mark is_deletion is_replacement is_replaced_by is_factors
+    unfolding links_of is_undeclared is_port_fault is_own_port_fault upper lower own is_pointing is_model is_element is_port is_submodel is_mark is_deletion is_replacement is_replaced_by is_factors
     by-port-links w = rw (k, b, w)
 
-    pub by-element-links : way s p ≡ 0 → {d q : ℕ} → d ≡ holder s p → FieldAt s (target_field s p) q → {a : Option ℕ} → a ≡ record_named s 2 d (text (field_at s.width s.bytes q))
-        → option_map (λ x. links 0 0 x) a ≡ links_of s p
-    unfolding links_of is_undeclared is_port_fault is_own_port_fault upper_of lower_of own_of is_pointing is_model is_element is_port is_submodel is_mark is_deletion is_replacement is_replaced_by is_factors
-    by-element-links w ed g e = taken (λ x. links 0 0 x) _ ∙ rw (k, b, w, e, g.is, ed, ← element-look s (holder s p) (text (target_field s p)))
+    pub by-element-links : way s p ≡ 0 → {d q : ℕ} → d ≡ holder s p → FieldAt s (target_field s p) q → {a o : Option ℕ} → a ≡ record_named s 2 d (text (field_at s.width s.bytes q))
+        → a ≡ o → option_map (λ x. links None None (Some x)) o ≡ links_of s p
+    unfolding links_of is_undeclared is_port_fault is_own_port_fault upper lower own is_pointing is_model is_element is_port is_submodel is_mark is_deletion is_replacement is_replaced_by is_factors
+    by-element-links w ed g e t = taken (λ x. links None None x) _ ∙ rw (k, b, w, ← t, e, g.is, ed, ← element-look s (holder s p) (text (target_field s p)))
 
   or-false : (b : Bool) → b ≡ b || false
   or-false true = refl
@@ -186,26 +153,26 @@ module _ (s : Recipe) (p : ℕ) where
     submodel-answered : a ≡ submodel_named s (holder s p) (text (submodel_field s p))
     submodel-answered = e ∙ rw (g.is, ed, ← submodel-look s (holder s p) (text (submodel_field s p)))
 
-    pub pointer-links : Unowned s p q → option_map (λ x. links 0 x 0) a ≡ links_of s p
-    unfolding links_of is_undeclared is_port_fault is_submodel_field_fault is_owner_fault upper_of lower_of own_of is_pointing is_model is_element is_port is_submodel is_mark is_deletion is_replacement is_replaced_by submodel_of is_factors
-    pointer-links u =
+    pub pointer-links : Unowned s p q → {o : Option ℕ} → a ≡ o → option_map (λ x. links None (Some x) None) o ≡ links_of s p
+    unfolding links_of is_undeclared is_port_fault is_submodel_field_fault is_owner_fault upper lower own is_pointing is_model is_element is_port is_submodel is_mark is_deletion is_replacement is_replaced_by submodel_of is_factors
+    pointer-links u t =
         let h = pointing-points s p u.pointing in
         let b = pointing-filled s p u.pointing in
-        taken (λ x. links 0 x 0) a
-        ∙ by-pointer (λ j. kind s p ≡ j → cond (not (is_some a)) None (Some (links 0 (unwrap_or a 0) 0)) ≡ links_of s p)
+        rw (← t) (taken (λ x. links None x None) a
+        ∙ by-pointer (λ j. kind s p ≡ j → cond (not (is_some a)) None (Some (links None a None)) ≡ links_of s p)
         (λ k. rw (k, b, submodel-answered))
         (λ k. rw (k, b, submodel-answered, ← or-false (not (is_some (submodel_named s (holder s p) (text (submodel_field s p)))))))
         (λ k. absurd (true≢false (rw k at u.unowned)))
         (λ k. absurd (true≢false (rw k at u.unowned)))
-        (kind s p) (sym (pointer-kind s p) ∙ h) refl
+        (kind s p) (sym (pointer-kind s p) ∙ h) refl)
 
     pub owned-links : owned_kind (kind s p) ≡ true → is_name (submodel_field s p) ≡ true → is_name (first_field s p) ≡ true → {r : ℕ} → FieldAt s (first_field s p) r → {o : Option ℕ}
-        → o ≡ element_in s p (field_at s.width s.bytes r) → cond (not (is_some a) || not (is_some o)) None (Some (links (unwrap_or o 0) (unwrap_or a 0) 0)) ≡ links_of s p
-    unfolding links_of is_undeclared is_submodel_field_fault is_owner_fault upper_of lower_of own_of is_pointing is_model is_element is_port is_submodel is_mark is_deletion is_replacement is_replaced_by submodel_of owner_of main is_factors
+        → o ≡ element_in s p (field_at s.width s.bytes r) → cond (not (is_some a) || not (is_some o)) None (Some (links o a None)) ≡ links_of s p
+    unfolding links_of is_undeclared is_submodel_field_fault is_owner_fault upper lower own is_pointing is_model is_element is_port is_submodel is_mark is_deletion is_replacement is_replaced_by submodel_of owner_of main is_factors
     owned-links m n f i {o} eo =
         let b = name-not-blank (submodel_field s p) n in
         let t : o ≡ element_named s (holder s p) (text (first_field s p)) = eo ∙ rw i.is (element-filled s p (first_field s p) (name-not-blank (first_field s p) f)) in
-        by-owned (λ j. kind s p ≡ j → cond (not (is_some a) || not (is_some o)) None (Some (links (unwrap_or o 0) (unwrap_or a 0) 0)) ≡ links_of s p)
+        by-owned (λ j. kind s p ≡ j → cond (not (is_some a) || not (is_some o)) None (Some (links o a None)) ≡ links_of s p)
         (λ k. rw (k, b, submodel-answered, t))
         (λ k. rw (k, b, submodel-answered, t))
         (kind s p) m refl
@@ -213,6 +180,6 @@ module _ (s : Recipe) (p : ℕ) where
   -- a kind 8, which row 5 never refuses
   pub factors-links : kind s p ≡ 8 → {d q u v : ℕ} → d ≡ holder s p → FieldAt s (first_field s p) q → FieldAt s (time_field s p) u → FieldAt s (extent_field s p) v → {a x y : Option ℕ}
       → a ≡ record_named s 4 d (text (field_at s.width s.bytes q)) → x ≡ element_in s p (field_at s.width s.bytes u)
-      → y ≡ element_in s p (field_at s.width s.bytes v) → Some (links (unwrap_or x 0) (unwrap_or a 0) (unwrap_or y 0)) ≡ links_of s p
-  unfolding links_of is_undeclared upper_of lower_of own_of is_pointing is_model is_element is_port is_submodel is_mark is_deletion is_replacement is_replaced_by is_factors scaled_by
+      → y ≡ element_in s p (field_at s.width s.bytes v) → Some (links x a y) ≡ links_of s p
+  unfolding links_of is_undeclared upper lower own is_pointing is_model is_element is_port is_submodel is_mark is_deletion is_replacement is_replaced_by is_factors scaled_by
   factors-links k ed g h i ea ex ey = rw (k, ea, ex, ey, g.is, h.is, i.is, ed, ← submodel-look s (holder s p) (text (first_field s p)))

@@ -14,8 +14,11 @@ use Rattle.names.specs.Lists.{In, first}
 use Rattle.names.specs.Names.{text, is_blank, field_at}
 use Rattle.names.proofs.Tests.{by_cases, or_cases, or-none-left, not-both, is-some, not_none, some-none, the-some}
 use Rattle.names.proofs.Lists.{none_first}
-use Rattle.recipe.specs.Records.{Recipe, kind, places, part_offset, submodel_part, pointer_kind, byte, submodel_offset, is_model, is_element, is_port, is_submodel, is_deletion, is_replacement, is_replaced_by, is_mark, is_factors, submodel_field, target_field, way}
-use Rattle.recipe.specs.Definitions.{holder, owner_of, submodels, submodel_named, model_of, submodel_of, named_by}
+use Rattle.recipe.specs.Records.{Recipe, kind_byte, kind, places, part_offset, submodel_part, pointer_kind, byte, submodel_offset, is_model, is_element, is_port, is_submodel, is_deletion, is_replacement, is_replaced_by, is_mark, is_factors, submodel_field, target_field, way}
+use Rattle.recipe.specs.Definitions.{main, holder, owner_of, submodels, submodel_named, model_of, submodel_of, named_by}
+use Rattle.recipe.specs.declared.Kind.{Kind}
+use Rattle.recipe.specs.declared.Way.{Way}
+use Rattle.recipe.specs.Fields.{way_read, way_to}
 use Rattle.recipe.specs.Reading.{is_way, is_own_port_fault, is_submodel_field_fault, is_owner_fault, is_port_fault, is_undeclared, fault₃, fault₄, fault₅}
 use Rattle.recipe.proofs.Bodies.{by-pointer, pointer-kind}
 use Rattle.recipe.proofs.Definitions.{submodel-named, in-submodels, model_in}
@@ -29,7 +32,7 @@ use Rattle.shadow.proofs.Columns.{numbered-over}
 use Rattle.shadow.proofs.Links.{link-none, link-some}
 use Rattle.links.specs.declared.Links.{Links}
 use Rattle.record_index.specs.Entries.{record_named, SoughtIn}
-use Rattle.links.specs.Links.{is_pointing, upper_of, lower_of, own_of, links, links_of, Pointed}
+use Rattle.links.specs.Links.{is_pointing, way_kind, upper, lower, own, upper_of, lower_of, own_of, links, links_of, Pointed}
 use Rattle.record_index.proofs.Places.{place-room}
 use Rattle.record_index.proofs.Lookups.{element-look, port-look}
 use Rattle.links.proofs.Fields.{FieldAt, sought, target-at-field, way-reads, target-reads}
@@ -48,8 +51,8 @@ module _ (s : Recipe) (p : ℕ) (h : is_mark s p || is_port s p ≡ true) where
   pointing-is = rw h
 
   pub lower-is : lower_of s p ≡ cond (is_pointing s p) (submodel_of s p) 0
-  unfolding lower_of is_element is_factors
-  lower-is = rw (no_kind 2 refl, no_kind 8 refl)
+  unfolding lower submodel_of is_element is_factors
+  lower-is = rw (no_kind 2 refl, no_kind 8 refl) (by_cases (is_pointing s p) (λ b. rw b) (λ b. rw b))
 
 pub not-pointing : (s : Recipe) (p : ℕ) → is_mark s p || is_port s p ≡ false → is_pointing s p ≡ false
 unfolding is_pointing
@@ -90,19 +93,13 @@ module _ (s : Recipe) (h₅ : fault₅ s ≡ None) (p : ℕ) (i : In p (places s
       omega (arith, place-room s m (definition-place s m (model_in s (holder s p) (submodel_of s p) submodel-in)).0)
 
   -- the answer of the look-up by its way
-  pub target-answered : fault₃ s ≡ None → {y d q : ℕ} → y ≡ way s p → d ≡ model_of s (submodel_of s p) → FieldAt s (target_field s p) q → {a : Option ℕ}
-      → a ≡ record_named s (2 + y) d (text (field_at s.width s.bytes q)) → unwrap_or a 0 ≡ unwrap_or (named_by s p) 0
-  unfolding named_by is_way
-  target-answered h₃ ey ed g e =
+  pub target-answered : (v : Kind) {y d q : ℕ} → kind_byte v ≡ cond (eqb y 0) 2 3 → y ≡ way s p → d ≡ model_of s (submodel_of s p) → FieldAt s (target_field s p) q → {a : Option ℕ}
+      → a ≡ record_named s (kind_byte v) d (text (field_at s.width s.bytes q)) → a ≡ named_by s p
+  unfolding named_by
+  target-answered v ev ey ed g e =
       by_cases (eqb (way s p) 0)
-      (λ b.
-      let w = eqb-true (way s p) 0 b in
-      rw (pointing-filled s p h, b, e, ey ∙ w, ed, g.is, element-look s (model_of s (submodel_of s p)) (text (target_field s p))))
-      (λ b.
-      let n = eqb-false (way s p) 0 b in
-      let l = leb-true (way s p) 1 (way-reads s p i h₃ (pointing-points s p h)) in
-      let w : way s p ≡ 1 = omega arith in
-      rw (pointing-filled s p h, b, e, ey ∙ w, ed, g.is, port-look s (model_of s (submodel_of s p)) (text (target_field s p))))
+      (λ b. rw (pointing-filled s p h, e, ev, ey, b, ed, g.is, element-look s (model_of s (submodel_of s p)) (text (target_field s p))))
+      (λ b. rw (pointing-filled s p h, e, ev, ey, b, ed, g.is, port-look s (model_of s (submodel_of s p)) (text (target_field s p))))
 
 -- ---- the cells 3 and 4
 module _ {s : Recipe} {t : List ℕ} (g : Pointed s t) (p : ℕ) (i : In p (places s)) where
@@ -122,7 +119,7 @@ module _ {s : Recipe} {t : List ℕ} (g : Pointed s t) (p : ℕ) (i : In p (plac
     cell-submodel = g.lowers p i ∙ (lower-is s p (pointing-points s p b) ∙ rw b)
 
     pub cell-model : get_or t (submodel_of s p + 3) 0 ≡ model_of s (submodel_of s p)
-    unfolding upper_of is_element is_submodel is_replacement is_replaced_by
+    unfolding upper model_of main is_element is_submodel is_replacement is_replaced_by
     cell-model =
         let r = in-submodels s (holder s p) (submodel_of s p) (submodel-in s g.declared p i b) in
         g.uppers (submodel_of s p) r.placed ∙ rw (eqb-true (kind s (submodel_of s p)) 4 r.passes)
@@ -165,27 +162,44 @@ module _ {s : Recipe} {t : List ℕ} (g : Pointed s t) (p : ℕ) (i : In p (plac
     unfolding way byte
     way-byte = rw offset-is
 
-    pub way-low : get_or s.bytes (p + 1 + (o + s.width)) 0 ≤ 1
-    unfolding is_way
-    way-low = let l = leb-true (way s p) 1 (way-reads s p i h₃ h) in omega (arith, way-byte)
+    way-is : is_way (get_or s.bytes (p + 1 + (o + s.width)) 0) ≡ true
+    way-is = rw way-byte (way-reads s p i h₃ h)
+
+    -- its way reads, and gives the kind of what is sought
+    pub way-some : {a : Option Way} → a ≡ way_read (get_or s.bytes (p + 1 + (o + s.width)) 0) (p + 1 + (o + s.width) + 1) → a ≡ None → ⊥
+    unfolding way_read
+    way-some e none = not_none {a = way_to (get_or s.bytes (p + 1 + (o + s.width)) 0) (p + 1 + (o + s.width) + 1)} (sym none ∙ (e ∙ rw way-is))
+
+    pub way-kind : {a : Option Way} {w : Way} {v : Kind} → a ≡ way_read (get_or s.bytes (p + 1 + (o + s.width)) 0) (p + 1 + (o + s.width) + 1) → a ≡ Some w → v ≡ way_kind w
+        → kind_byte v ≡ cond (eqb (get_or s.bytes (p + 1 + (o + s.width)) 0) 0) 2 3
+    unfolding way_read
+    way-kind {a} {w} {v} e is ev =
+        let x : w ≡ way_to (get_or s.bytes (p + 1 + (o + s.width)) 0) (p + 1 + (o + s.width) + 1) = the-some (sym is ∙ (e ∙ rw way-is)) in
+        rw (ev, x) (by_cases (eqb (get_or s.bytes (p + 1 + (o + s.width)) 0) 0) (λ z. rw z) (λ z. rw z))
 
     pub submodel-room : m + 13 ≤ length t
     submodel-room =
         omega (arith, em, cell-submodel b, row_room g.numbered.shadowed (submodel_of s p) (in-submodels s (holder s p) (submodel_of s p) (submodel-in s g.declared p i b)).placed)
 
-    module _ {d : ℕ} (ed : d ≡ get_or t (m + 3) 0) where
+    module _ (v : Kind) (ev : kind_byte v ≡ cond (eqb (get_or s.bytes (p + 1 + (o + s.width)) 0) 0) 2 3) {d : ℕ} (ed : d ≡ get_or t (m + 3) 0) where
       model_is : d ≡ model_of s (submodel_of s p)
       model_is = ed ∙ (ap (λ (x : ℕ). get_or t (x + 3) 0) (em ∙ cell-submodel b) ∙ cell-model b)
 
-      pub target-sought : SoughtIn s (record { kind = 2 + get_or s.bytes (p + 1 + (o + s.width)) 0; definition = d; name = p + 1 + (o + s.width) + 1 })
+      kind-low : kind_byte v ≤ 4
+      kind-low =
+          by_cases (eqb (get_or s.bytes (p + 1 + (o + s.width)) 0) 0)
+          (λ z. let x : kind_byte v ≡ 2 = rw z at ev in omega arith)
+          (λ z. let x : kind_byte v ≡ 3 = rw z at ev in omega arith)
+
+      pub target-sought : SoughtIn s (record { kind = v; definition = d; name = p + 1 + (o + s.width) + 1 })
       target-sought =
-          sought target-field (target-reads s p i h₃ h) (omega arith) (omega (arith, way-low))
+          sought target-field (target-reads s p i h₃ h) kind-low
           (omega (arith, model_is, model-low s g.declared p i b g.numbered.shadowed.short))
 
-      pub target-written : {a : Option ℕ} {v : ℕ} {t' : List ℕ}
-          → a ≡ record_named s (2 + get_or s.bytes (p + 1 + (o + s.width)) 0) d (text (field_at s.width s.bytes (p + 1 + (o + s.width) + 1)))
-          → v ≡ unwrap_or a 0 → t' ≡ set t (p + 5) v → t' ≡ cond (is_pointing s p) (set t (p + 5) (unwrap_or (named_by s p) 0)) t
-      target-written ea ev et = rw (et, b, ev ∙ target-answered s g.declared p i b h₃ way-byte model_is target-field ea)
+      pub target-written : {a : Option ℕ} {t' : List ℕ}
+          → a ≡ record_named s (kind_byte v) d (text (field_at s.width s.bytes (p + 1 + (o + s.width) + 1)))
+          → t' ≡ set t (p + 5) (unwrap_or a 0) → t' ≡ cond (is_pointing s p) (set t (p + 5) (unwrap_or (named_by s p) 0)) t
+      target-written ea et = rw (et, b, target-answered s g.declared p i b v ev way-byte model_is target-field ea)
 
 pub pointed-over : {s : Recipe} {t₀ t : List ℕ} → Kept s (5 ∷ []) t₀ t → Pointed s t₀ → Pointed s t
 pointed-over o g = record {
@@ -203,22 +217,22 @@ pub links-none : (s : Recipe) (p : ℕ) {o : Option Links} → o ≡ links_of s 
 unfolding links_of
 links-none s p e n =
     by_cases (is_undeclared s p) (λ h. h)
-    (λ h. not_none {a = links (upper_of s p) (lower_of s p) (own_of s p)} (sym n ∙ (e ∙ rw h)))
+    (λ h. not_none {a = links (upper s p) (lower s p) (own s p)} (sym n ∙ (e ∙ rw h)))
 
-pub links-some : (s : Recipe) (p : ℕ) {o : Option Links} {l : Links} → o ≡ links_of s p → o ≡ Some l → (is_undeclared s p ≡ false) × (l ≡ links (upper_of s p) (lower_of s p) (own_of s p))
+pub links-some : (s : Recipe) (p : ℕ) {o : Option Links} {l : Links} → o ≡ links_of s p → o ≡ Some l → (is_undeclared s p ≡ false) × (l ≡ links (upper s p) (lower s p) (own s p))
 unfolding links_of
 links-some s p {l = l} e n =
     by_cases (is_undeclared s p)
     (λ h. some-none {a = l} (sym n ∙ (e ∙ rw h)))
     (λ h. (h, the-some (sym n ∙ (e ∙ rw h))))
 
-pub links-row : (s : Recipe) (p : ℕ) {t t₁ t₂ t₃ : List ℕ} {l : Links} {x y z : ℕ} → l ≡ links (upper_of s p) (lower_of s p) (own_of s p) → p + 13 ≤ length t → t₁ ≡ set t (p + 3) x → x ≡ l.upper
-    → t₂ ≡ set t₁ (p + 4) y → y ≡ l.lower → t₃ ≡ set t₂ (p + 5) z → z ≡ l.own → RowWritten (5 ∷ 4 ∷ 3 ∷ []) (link_cell s) p t t₃
-links-row s p {t} e h e₁ ex e₂ ey e₃ ez =
+pub links-row : (s : Recipe) (p : ℕ) {t t₁ t₂ t₃ : List ℕ} {l : Links} → l ≡ links (upper s p) (lower s p) (own s p) → p + 13 ≤ length t → t₁ ≡ set t (p + 3) (unwrap_or l.upper 0)
+    → t₂ ≡ set t₁ (p + 4) (unwrap_or l.lower 0) → t₃ ≡ set t₂ (p + 5) (unwrap_or l.own 0) → RowWritten (5 ∷ 4 ∷ 3 ∷ []) (link_cell s) p t t₃
+links-row s p {t} e h e₁ e₂ e₃ =
     rw (e₃, e₂, e₁)
     (row-set 5
-    (row-set 4 (row-set 3 (row-none (link_cell s) p t) (omega arith) (ex ∙ ap (λ (x : Links). x.upper) e)) (omega arith) (ey ∙ ap (λ (x : Links). x.lower) e))
-    (omega arith) (ez ∙ ap (λ (x : Links). x.own) e))
+    (row-set 4 (row-set 3 (row-none (link_cell s) p t) (omega arith) (ap (λ (x : Links). unwrap_or x.upper 0) e)) (omega arith) (ap (λ (x : Links). unwrap_or x.lower 0) e))
+    (omega arith) (ap (λ (x : Links). unwrap_or x.own 0) e))
 
 pub fault-five : (s : Recipe) {o : Option ℕ} → first (is_undeclared s) (places s) ≡ o → fault₅ s ≡ o
 unfolding fault₅
@@ -243,7 +257,7 @@ module _ {s : Recipe} {t₀ t : List ℕ} (h₃ : fault₃ s ≡ None) (h₄ : f
 
   -- a port whose submodel is blank names an element
   own-named : (r : ℕ) → In r (places s) → is_mark s r || is_port s r ≡ true → is_blank (submodel_field s r) ≡ true → own_of s r ≡ unwrap_or (named_by s r) 0
-  unfolding own_of named_by fault₅ is_undeclared is_port_fault is_own_port_fault is_model is_element is_port is_submodel is_way
+  unfolding own named_by fault₅ is_undeclared is_port_fault is_own_port_fault is_model is_element is_port is_submodel is_way
   own-named r i h b =
       let u : is_undeclared s r ≡ false = none_first (is_undeclared s) (places s) r g.declared i in
       ⊎_elim
@@ -257,7 +271,7 @@ module _ {s : Recipe} {t₀ t : List ℕ} (h₃ : fault₃ s ≡ None) (h₄ : f
       (or_cases (is_mark s r) (is_port s r) h)
 
   pub linked-end : Linked s t
-  unfolding upper_of lower_of own_of is_element is_submodel is_pointing is_port is_mark is_deletion is_replacement is_replaced_by is_factors
+  unfolding upper lower own owner_of model_of main is_element is_submodel is_pointing is_port is_mark is_deletion is_replacement is_replaced_by is_factors
   linked-end = record {
     numbered = g.numbered;
     row₃ = h₃;
@@ -280,5 +294,5 @@ module _ {s : Recipe} {t₀ t : List ℕ} (h₃ : fault₃ s ≡ None) (h₄ : f
   }
 
   pub unpaired-end : Unpaired s t
-  unfolding own_of is_submodel is_pointing is_port is_mark is_deletion is_replacement is_replaced_by is_factors
+  unfolding own is_submodel is_pointing is_port is_mark is_deletion is_replacement is_replaced_by is_factors
   unpaired-end m i k = f m i ∙ rw (eqb-true (kind s m) 4 k) (own m i ∙ rw (eqb-true (kind s m) 4 k))

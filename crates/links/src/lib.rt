@@ -2,47 +2,38 @@
 // For the floors above: resolve_names.
 #![tactic(auto)]
 
-ghost use Rattle.std.specs.Prelude.{◌≡◌, true, cond, None, ◌+◌, length, set, unwrap_or, OnOk};
+ghost use Rattle.std.specs.Prelude.{◌≡◌, true, cond, None, ◌+◌, ◌≤◌, length, set, unwrap_or, OnOk};
 ghost use Rattle.std.specs.Result.{result_err};
 ghost use Rattle.std.proofs.Props.{props};
-ghost use Rattle.names.specs.Lists.{In};
+ghost use Rattle.names.specs.Lists.{In, among};
 ghost use Rattle.names.specs.Names.{text, is_blank};
 ghost use Rattle.names.specs.Judging.{judged};
-ghost use Rattle.recipe.specs.Records.{recipe, places, owned_kind, kind, submodel_field};
-ghost use Rattle.recipe.specs.Definitions.{element_in, named_by};
+ghost use Rattle.recipe.specs.Records.{recipe, kind_byte, places, owned_kind, kind, submodel_field};
+ghost use Rattle.recipe.specs.Definitions.{holder, element_in, named_by};
 ghost use Rattle.recipe.specs.Reading.{fault₃, is_parent_fault, fault₄, fault₅};
-ghost use Rattle.recipe.specs.Fields.{element_fields, port_fields, submodel_fields, mark_fields, factors_fields};
+ghost use Rattle.recipe.specs.Fields.{mark_fields};
 ghost use Rattle.shadow.specs.Shadow.{Cell};
 ghost use Rattle.shadow.specs.Columns.{Numbered, Linked, Unpaired};
 ghost use Rattle.record_index.specs.Entries.{record_named};
-ghost use Rattle.record_index.specs.Indexed.{recipe_of, field_in};
-ghost use Rattle.links.specs.Links.{declared_rows, RecordRequires, SoughtAt, OptionalAt, Unowned, is_pointing, links_of, own_of, Pointed};
+ghost use Rattle.record_index.specs.Indexed.{recipe_of};
+ghost use Rattle.links.specs.Links.{declared_rows, OptionalAt, Unowned, is_pointing, way_kind, links_of, own_of, Pointed};
 
 use names::{Reason, Refusal};
 use recipe::{
-    ElementFields, FactorsFields, Kind, Mark, PortFields, Record, Records, Source, SubmodelFields,
-    Way,
+    ElementFields, FactorsFields, Kind, MOST_BYTES, Mark, PortFields, Record, Records, Source,
+    SubmodelFields, Way,
 };
-use record_index::{RecordIndex, Sought};
+use record_index::{RecordIndex, Sought, Tables};
 
-// The most records of a recipe, rounded up, and its most bytes.
+// The most records of a recipe, rounded up.
 const MOST_RECORDS: usize = 1536;
 
-const MOST_BYTES: usize = 16384;
-
-// A record and the definition that holds it.
-#[derive(Clone, Copy)]
-struct Held {
-    place: usize,
-    definition: usize,
-}
-
-// What a record names, by the cells 3 to 5.
+// What a record names, by the cells 3 to 5: each a record, or nothing.
 #[derive(Clone, Copy)]
 struct Links {
-    upper: u16,
-    lower: u16,
-    own: u16,
+    upper: Option<u16>,
+    lower: Option<u16>,
+    own: Option<u16>,
 }
 
 // The index of the records of a recipe that row 4 does not refuse, in which what they name is looked up.
@@ -52,174 +43,204 @@ struct Linker<'a> {
     ghost once: { fault₄ (recipe_of index) ≡ None } by { Prim.hlevel props },
 }
 
-impl<'a> Linker<'a> {
-    // The record of kind k, of the definition, whose name the field at q is.
-    fn find(&self, k: u8, h: Held, q: usize) -> Option<u16>
-        requires { SoughtAt (recipe_of self.now.index) h k q }
-        ensures { result ≡ record_named (recipe_of self.now.index) k h.definition (text (field_in self.now.index q)) }
+// A record of that recipe, and the definition that holds it.
+#[derive(Clone, Copy)]
+struct Held<'a> {
+    linker: &'a Linker<'a>,
+    place: usize,
+    definition: usize,
+    ghost placed: { among place (places (recipe_of linker.now.index)) ≡ true },
+    ghost held: { definition ≡ holder (recipe_of linker.now.index) place },
+}
+
+// The kind of the record that a way names.
+fn kind_of(way: Way) -> Kind
+    ensures { result ≡ way_kind way }
+{
+    match way {
+        Way::ByElement(_) => Kind::Element,
+        Way::ByPort(_) => Kind::Port,
+    }
+}
+
+impl<'a> Held<'a> {
+    ghost use Rattle.recipe.specs.declared.Record.TheVariants.{Element, Port, Submodel, Factors};
+    ghost use Rattle.links.specs.Held.{its_recipe, its_field, SoughtAt, ReadsAs};
+
+    // The record of kind k, of the record's definition, whose name the field at q is.
+    fn find(&self, k: Kind, q: usize) -> Option<u16>
+        requires { SoughtAt self.now k q }
+        ensures { result ≡ record_named (its_recipe self.now) (kind_byte k) self.now.definition (text (its_field self.now q)) }
     {
-        self.index.find(Sought {
+        self.linker.index.find(Sought {
             kind: k,
-            definition: h.definition,
+            definition: self.definition,
             name: q,
         })
     }
 
-    // The element of the record's definition that the field at q names; a blank names none.
-    fn find_element(&self, h: Held, q: usize) -> Option<u16>
-        requires { RecordRequires (recipe_of self.now.index) h × OptionalAt (recipe_of self.now.index) q }
-        ensures { result ≡ element_in (recipe_of self.now.index) h.place (field_in self.now.index q) }
+    // Whether the field at q is blank.
+    fn is_blank(&self, q: usize) -> bool
+        requires { q + (its_recipe self.now).width ≤ length (its_recipe self.now).bytes }
+        ensures { result ≡ is_blank (its_field self.now q) }
     {
-        if names::is_blank(names::field_at(self.index.source.bytes, q, self.index.source.width)) {
-            return None;
-        }
-        self.find(Kind::Element as u8, h, q)
+        let linker = self.linker;
+        let s = linker.index.source;
+        names::is_blank(names::field_at(s.bytes, q, s.width))
     }
 
-    // Whether row 5 refuses the element at p, whose parent field names that parent.
-    fn parent_fault(&self, p: usize, e: ElementFields, parent: Option<u16>) -> bool
-        requires { In p (places (recipe_of self.now.index)) × ((kind (recipe_of self.now.index) p ≡ 2) × ((e ≡ element_fields (recipe_of self.now.index) p) × (parent ≡ element_in (recipe_of self.now.index) p (field_in self.now.index e.parent)))) }
-        ensures { result ≡ is_parent_fault (recipe_of self.now.index) p }
+    // The element of the record's definition that the field at q names; a blank names none.
+    fn find_element(&self, q: usize) -> Option<u16>
+        requires { OptionalAt (its_recipe self.now) q }
+        ensures { result ≡ element_in (its_recipe self.now) self.now.place (its_field self.now q) }
     {
-        let s = self.index.source;
+        if self.is_blank(q) {
+            return None;
+        }
+        self.find(Kind::Element, q)
+    }
+
+    // Whether row 5 refuses the element, whose parent field names that parent.
+    fn parent_fault(&self, e: ElementFields, parent: Option<u16>) -> bool
+        requires { ReadsAs self.now (Element e) × (parent ≡ element_in (its_recipe self.now) self.now.place (its_field self.now e.parent)) }
+        ensures { result ≡ is_parent_fault (its_recipe self.now) self.now.place }
+    {
+        let linker = self.linker;
+        let s = linker.index.source;
         let Some(a) = parent else {
-            let b = names::is_blank(names::field_at(s.bytes, e.parent, s.width));
+            let b = self.is_blank(e.parent);
             return !(b & flat_table::parent_may_be_blank(e.class));
         };
+        let p = self.place;
         let q = recipe::wide(a);
-        !((q < p) & flat_table::parent_allowed(e.class, s.bytes[q + 1 + s.width]))
+        !((q < p) & flat_table::parent_allowed(e.class, s.class_at(q)))
     }
 
     // An element: its parent and reference.
-    fn link_element(&self, h: Held, e: ElementFields) -> Option<Links>
-        requires { RecordRequires (recipe_of self.now.index) h × ((kind (recipe_of self.now.index) h.place ≡ 2) × (e ≡ element_fields (recipe_of self.now.index) h.place)) }
-        ensures { result ≡ links_of (recipe_of self.now.index) h.place }
+    fn link_element(&self, e: ElementFields) -> Option<Links>
+        requires { ReadsAs self.now (Element e) }
+        ensures { result ≡ links_of (its_recipe self.now) self.now.place }
     {
-        let parent = self.find_element(h, e.parent);
-        if self.parent_fault(h.place, e, parent) {
+        let parent = self.find_element(e.parent);
+        if self.parent_fault(e, parent) {
             return None;
         }
-        let reference = self.find_element(h, e.reference);
+        let reference = self.find_element(e.reference);
         Some(Links {
-            upper: parent.unwrap_or(0),
-            lower: reference.unwrap_or(0),
-            own: 0,
+            upper: parent,
+            lower: reference,
+            own: None,
         })
     }
 
     // A submodel: its model.
-    fn link_submodel(&self, h: Held, e: SubmodelFields) -> Option<Links>
-        requires { RecordRequires (recipe_of self.now.index) h × ((kind (recipe_of self.now.index) h.place ≡ 4) × (e ≡ submodel_fields (recipe_of self.now.index) h.place)) }
-        ensures { result ≡ links_of (recipe_of self.now.index) h.place }
+    fn link_submodel(&self, e: SubmodelFields) -> Option<Links>
+        requires { ReadsAs self.now (Submodel e) }
+        ensures { result ≡ links_of (its_recipe self.now) self.now.place }
     {
-        let upper = self.find(Kind::Model as u8, h, e.model)?;
+        let model = self.find(Kind::Model, e.model)?;
         Some(Links {
-            upper,
-            lower: 0,
-            own: 0,
+            upper: Some(model),
+            lower: None,
+            own: None,
         })
     }
 
     // A port with a blank submodel: the element that it names.
-    fn link_own_port(&self, h: Held, e: PortFields) -> Option<Links>
-        requires { RecordRequires (recipe_of self.now.index) h × ((kind (recipe_of self.now.index) h.place ≡ 3) × ((e ≡ port_fields (recipe_of self.now.index) h.place) × (is_blank (submodel_field (recipe_of self.now.index) h.place) ≡ true))) }
-        ensures { result ≡ links_of (recipe_of self.now.index) h.place }
+    fn link_own_port(&self, e: PortFields) -> Option<Links>
+        requires { ReadsAs self.now (Port e) × (is_blank (submodel_field (its_recipe self.now) self.now.place) ≡ true) }
+        ensures { result ≡ links_of (its_recipe self.now) self.now.place }
     {
         let target = e.target;
         match target {
             Way::ByPort(_) => None,
             Way::ByElement(q) => {
-                let own = self.find(Kind::Element as u8, h, q)?;
+                let own = self.find(Kind::Element, q)?;
                 Some(Links {
-                    upper: 0,
-                    lower: 0,
-                    own,
+                    upper: None,
+                    lower: None,
+                    own: Some(own),
                 })
             },
         }
     }
 
     // A port or deletion that names a submodel, by the field at q.
-    fn link_pointer(&self, h: Held, q: usize) -> Option<Links>
-        requires { RecordRequires (recipe_of self.now.index) h × Unowned (recipe_of self.now.index) h.place q }
-        ensures { result ≡ links_of (recipe_of self.now.index) h.place }
+    fn link_pointer(&self, q: usize) -> Option<Links>
+        requires { Unowned (its_recipe self.now) self.now.place q }
+        ensures { result ≡ links_of (its_recipe self.now) self.now.place }
     {
-        let lower = self.find(Kind::Submodel as u8, h, q)?;
+        let submodel = self.find(Kind::Submodel, q)?;
         Some(Links {
-            upper: 0,
-            lower,
-            own: 0,
+            upper: None,
+            lower: Some(submodel),
+            own: None,
         })
     }
 
     // A port: its submodel, or of a blank the element that it names.
-    fn link_port(&self, h: Held, e: PortFields) -> Option<Links>
-        requires { RecordRequires (recipe_of self.now.index) h × ((kind (recipe_of self.now.index) h.place ≡ 3) × (e ≡ port_fields (recipe_of self.now.index) h.place)) }
-        ensures { result ≡ links_of (recipe_of self.now.index) h.place }
+    fn link_port(&self, e: PortFields) -> Option<Links>
+        requires { ReadsAs self.now (Port e) }
+        ensures { result ≡ links_of (its_recipe self.now) self.now.place }
     {
-        if names::is_blank(names::field_at(
-            self.index.source.bytes,
-            e.submodel,
-            self.index.source.width,
-        )) {
-            return self.link_own_port(h, e);
+        if self.is_blank(e.submodel) {
+            return self.link_own_port(e);
         }
-        self.link_pointer(h, e.submodel)
+        self.link_pointer(e.submodel)
     }
 
     // A mark with an owner: its owner and submodel.
-    fn link_owned(&self, h: Held, m: Mark) -> Option<Links>
-        requires { RecordRequires (recipe_of self.now.index) h × ((owned_kind (kind (recipe_of self.now.index) h.place) ≡ true) × (m ≡ mark_fields (recipe_of self.now.index) h.place)) }
-        ensures { result ≡ links_of (recipe_of self.now.index) h.place }
+    fn link_owned(&self, m: Mark) -> Option<Links>
+        requires { (owned_kind (kind (its_recipe self.now) self.now.place) ≡ true) × (m ≡ mark_fields (its_recipe self.now) self.now.place) }
+        ensures { result ≡ links_of (its_recipe self.now) self.now.place }
     {
-        let owner = self.find_element(h, m.owner);
-        let submodel = self.find(Kind::Submodel as u8, h, m.submodel);
-        if submodel.is_none() | owner.is_none() {
-            return None;
-        }
+        let owner = self.find_element(m.owner)?;
+        let submodel = self.find(Kind::Submodel, m.submodel)?;
         Some(Links {
-            upper: owner.unwrap_or(0),
-            lower: submodel.unwrap_or(0),
-            own: 0,
+            upper: Some(owner),
+            lower: Some(submodel),
+            own: None,
         })
     }
 
     // A kind 8: its two factors and its submodel. Row 5 never refuses it.
-    fn link_factors(&self, h: Held, e: FactorsFields) -> Links
-        requires { RecordRequires (recipe_of self.now.index) h × ((kind (recipe_of self.now.index) h.place ≡ 8) × (e ≡ factors_fields (recipe_of self.now.index) h.place)) }
-        ensures { Some result ≡ links_of (recipe_of self.now.index) h.place }
+    fn link_factors(&self, e: FactorsFields) -> Links
+        requires { ReadsAs self.now (Factors e) }
+        ensures { Some result ≡ links_of (its_recipe self.now) self.now.place }
     {
-        let time = self.find_element(h, e.time);
-        let extent = self.find_element(h, e.extent);
-        let submodel = self.find(Kind::Submodel as u8, h, e.submodel);
+        let time = self.find_element(e.time);
+        let extent = self.find_element(e.extent);
+        let submodel = self.find(Kind::Submodel, e.submodel);
         Links {
-            upper: time.unwrap_or(0),
-            lower: submodel.unwrap_or(0),
-            own: extent.unwrap_or(0),
+            upper: time,
+            lower: submodel,
+            own: extent,
         }
     }
 
-    // What a record names; nothing where row 5 refuses it.
-    fn link_record(&self, h: Held) -> Option<Links>
-        requires { RecordRequires (recipe_of self.now.index) h }
-        ensures { result ≡ links_of (recipe_of self.now.index) h.place }
+    // What the record names; nothing where row 5 refuses it.
+    fn link_record(&self) -> Option<Links>
+        ensures { result ≡ links_of (its_recipe self.now) self.now.place }
     {
-        match recipe::read_record(self.index.source, h.place)? {
+        let linker = self.linker;
+        match recipe::read_record(linker.index.source, self.place)? {
             Record::Model(_) => Some(Links {
-                upper: 0,
-                lower: 0,
-                own: 0,
+                upper: None,
+                lower: None,
+                own: None,
             }),
-            Record::Element(e) => self.link_element(h, e),
-            Record::Port(e) => self.link_port(h, e),
-            Record::Submodel(e) => self.link_submodel(h, e),
-            Record::Deletion(m) => self.link_pointer(h, m.submodel),
-            Record::Replacement(m) => self.link_owned(h, m),
-            Record::ReplacedBy(m) => self.link_owned(h, m),
-            Record::Factors(e) => Some(self.link_factors(h, e)),
+            Record::Element(e) => self.link_element(e),
+            Record::Port(e) => self.link_port(e),
+            Record::Submodel(e) => self.link_submodel(e),
+            Record::Deletion(m) => self.link_pointer(m.submodel),
+            Record::Replacement(m) => self.link_owned(m),
+            Record::ReplacedBy(m) => self.link_owned(m),
+            Record::Factors(e) => Some(self.link_factors(e)),
         }
     }
+}
 
+impl<'a> Linker<'a> {
     // Links each record, up to the first to which row 5 applies.
     fn link_records(&self, t: &mut [u16]) -> Option<usize>
         requires { Numbered (recipe_of self.now.index) t.old }
@@ -227,15 +248,16 @@ impl<'a> Linker<'a> {
     {
         for p in Records::of(self.index.source) {
             let h = Held {
+                linker: &*self,
                 place: p,
                 definition: shadow::cell(t, p, shadow::DEFINITION_OF),
             };
-            let Some(l) = self.link_record(h) else {
+            let Some(l) = h.link_record() else {
                 return Some(p);
             };
-            shadow::set_cell(t, p, shadow::OWNER, recipe::wide(l.upper));
-            shadow::set_cell(t, p, shadow::SUBMODEL, recipe::wide(l.lower));
-            shadow::set_cell(t, p, shadow::NAMED_RECORD, recipe::wide(l.own));
+            shadow::set_link(t, p, shadow::OWNER, l.upper);
+            shadow::set_link(t, p, shadow::SUBMODEL, l.lower);
+            shadow::set_link(t, p, shadow::NAMED_RECORD, l.own);
         }
         None
     }
@@ -253,14 +275,18 @@ impl<'a> Linker<'a> {
         let Some(m) = shadow::link(t, p, shadow::SUBMODEL) else {
             return;
         };
-        let way = p + 1 + (recipe::submodel_offset(k, s.width) + s.width);
-        let sought = Sought {
-            kind: Kind::Element as u8 + s.bytes[way],
-            definition: shadow::cell(t, m, shadow::MODEL),
-            name: way + 1,
+        let at = p + 1 + (recipe::submodel_offset(k, s.width) + s.width);
+        // Row 3 refuses a way byte without a meaning, so that there is a way.
+        let Some(way) = Way::of(s.bytes[at], at + 1) else {
+            return;
         };
-        let named = self.index.find(sought).unwrap_or(0);
-        shadow::set_cell(t, p, shadow::NAMED_RECORD, recipe::wide(named));
+        let sought = Sought {
+            kind: kind_of(way),
+            definition: shadow::cell(t, m, shadow::MODEL),
+            name: at + 1,
+        };
+        let named = self.index.find(sought);
+        shadow::set_link(t, p, shadow::NAMED_RECORD, named);
     }
 
     // Writes what each port and mark names that has a submodel.
@@ -295,6 +321,12 @@ pub fn resolve_names(s: &Source, t: &mut [u16]) -> Result<(), Refusal>
     let mut fields = [0u8; MOST_BYTES];
     let mut keys = [0u32; MOST_RECORDS];
     let mut order = [0u16; MOST_RECORDS];
-    let index = RecordIndex::of(s, t, &mut at, &mut fields, &mut keys, &mut order);
+    let tables = Tables {
+        at: &mut at,
+        fields: &mut fields,
+        keys: &mut keys,
+        order: &mut order,
+    };
+    let index = RecordIndex::of(s, t, tables);
     judge_names(index, t)
 }

@@ -9,5 +9,7 @@ pub mod Stamps
 pub mod Relations
 pub mod Records
 pub mod Threads
+pub mod Following
+pub mod Passing
 pub mod Pass
 pub mod Turn

@@ -9,22 +9,21 @@ use lib.Seq.{get_or-set_other, get_or-set_same}
 use mathlib.Core.Bool.{Bool, ◌&&◌, ◌||◌, false, or_assoc, or-false, or-true, true}
 use mathlib.Core.List.{List, [], ◌∷◌}
 use mathlib.Core.Logic.{◌⊎◌, ⊎_elim}
-use mathlib.Core.Path.{◌∙◌, ◌≡◌, ap, refl, subst, sym}
+use mathlib.Core.Path.{◌∙◌, ◌≡◌, ap, refl, sym}
 use native.Mathlib.Omega.{arith}
 use Rattle.names.specs.Lists.{In, among, any}
 use Rattle.names.proofs.Lists.{among_one, among_two}
 use Rattle.names.proofs.Tests.{by_cases, not-both, or_cases, or_right}
 use Rattle.recipe.specs.Definitions.{holder, main, owner_of}
-use Rattle.recipe.specs.Records.{Recipe, port_kind, replaced_by_kind, mark_kind, owned_kind, pointer_kind, is_owned, is_pointer, is_port, is_replaced_by, is_replacement, kind, next, places}
+use Rattle.recipe.specs.Records.{Recipe, port_kind, replaced_by_kind, mark_kind, owned_kind, pointer_kind, is_owned, is_pointer, is_port, is_replaced_by, is_replacement, kind, places}
 use Rattle.recipe.proofs.Bodies.{owned-kind, pointer-kind}
-use Rattle.recipe.proofs.Definitions.{Held, holder_in, in-elements}
+use Rattle.recipe.proofs.Definitions.{Held, in-elements}
 use Rattle.recipe.proofs.Rows.{owner-element}
-use Rattle.recipe.proofs.Spans.{definition-place}
 use Rattle.recipe.specs.Records.{is_element}
 use Rattle.shadow.specs.Columns.{order}
 use Rattle.shadow.proofs.Cells.{row_room}
 use Rattle.recipe.proofs.Reading.{place-low}
-use Rattle.tree.proofs.Steps.{AtRow}
+use Rattle.tree.specs.Steps.{StepsTo}
 use Rattle.tree.specs.declared.InstancesOf.{InstancesOf}
 use Rattle.tree.specs.Faults.{fault₈}
 use Rattle.tree.specs.Numbers.{first_at, number, number_in, reach}
@@ -43,7 +42,8 @@ use Rattle.marks.proofs.Marks.{aim-in, aim-some, aim-target, owner-in, pointer-h
 use Rattle.marks.proofs.Pass.{not-model, query, stamped-one, stamped-same}
 use Rattle.marks.proofs.Records.{stamped-by, stamped-other, stamped-port}
 use Rattle.marks.proofs.Relations.{aimed-is}
-use Rattle.marks.proofs.Threads.{Along, Done, Holds, On, SeekLoop, begin, finish, found-one, has-row, path, seek-end, seek-turn, this-in, turn}
+use Rattle.marks.proofs.Threads.{Done, Holds, found-one, has-row, path, this-in}
+use Rattle.marks.proofs.Following.{Following, follow-on}
 
 -- ---- the numbers of targets and owners, from those of their instance
 module _ (s : Recipe) where
@@ -105,14 +105,6 @@ pub record Read (s : Recipe) (t inst : List ℕ) (p i k e o f : ℕ) : Type 0 wh
 -- the record r, one at p, conflicts with an earlier one
 abbrev pub clash : Recipe → ℕ → Node → Bool
 clash s p r = any (λ q. ltb q.place p && conflict s q r) (tree_pointers s)
-
--- the search for a conflict, along the instances
-abbrev pub Checked : Recipe → ℕ → ℕ → Type 0
-Checked s p v = SeekLoop s (is_pointer s) p (clash s p) v
-
--- the cells set, along the instances
-abbrev pub EnterLoop : Recipe → ℕ → List Bool → ℕ → Type 0
-EnterLoop s p u v = Along s p (λ D. Stamped s D u) v
 
 -- ---- where the cells of a record lie
 module _ {s : Recipe} {t inst : List ℕ} {insts : ℕ} (T : Targeted s t inst insts) (p : ℕ) (here : In p (places s)) where
@@ -254,43 +246,27 @@ module _ {s : Recipe} {t inst : List ℕ} {insts : ℕ} (T : Targeted s t inst i
       pub entered : (u : List Bool) (D : Node → Type 0) → length u ≡ 12 * 1024 → Stamped s D u → Stamped s (λ q. D q ⊎ (q ≡ it i)) (stamped u k (f + e) (f + o) d)
       entered u D l S = stamped-one s u (stamped u k (f + e) (f + o) d) D (it i) ptr (λ c. stamped-law u c l) S
 
-  -- ---- one step along the instances: x is what is read of the record, y the same in the instance
-  module _ {a b : InstancesOf} {i : ℕ} (z : AtRow inst a i b) (here-on : On s (holder s p) a.next) {x y : Pointer} (r : ReadAt s.bytes t p x) (e : y ≡ in_row x inst i) where
+  -- ---- instance i: x is what is read of the record, y the same in the instance
+  module _ {i : ℕ} (h : Holds s (holder s p) i) {x y : Pointer} (r : ReadAt s.bytes t p x) (e : y ≡ in_row x inst i) where
     read : Read s t inst p i x.kind x.target x.owner (get_or inst (6 * i + 2) 0)
-    read = record { holds = rw z.number (here-on.holds z.some); kind-is = r.kind; target_is = r.target; owner-is = r.owner; first-is = refl }
+    read = record { holds = h; kind-is = r.kind; target_is = r.target; owner-is = r.owner; first-is = refl }
 
     pub step-fits : InCells y
     step-fits = rw e (fits read refl)
 
     -- the test of its cells
     module _ {u : List Bool} {m : Bool} (S : Stamped s (λ q. q.place < p) u) (met : m ≡ meets u y.kind y.target y.owner y.depth) where
-      step-clash : clash s p (it i) ≡ m
+      pub step-clash : clash s p (it i) ≡ m
       step-clash = sym (meets-law read refl u S) ∙ sym (rw e at met)
 
       pub check-hit : m ≡ true → true ≡ conflicts_with_earlier s p
       unfolding conflicts_with_earlier tree_pointers node
-      check-hit h = sym (found-one s (is_pointer s) p (clash s p) (it i) (ptr read) refl (step-clash ∙ h))
-
-      pub check-turn : m ≡ false → Checked s p a.next → Checked s p b.next
-      check-turn h c = seek-turn T (is_pointer s) p here (clash s p) c z.some z.on (ap (λ (j : ℕ). clash s p (it j)) (sym z.number) ∙ step-clash ∙ h)
+      check-hit b = sym (found-one s (is_pointer s) p (clash s p) (it i) (ptr read) refl (step-clash ∙ b))
 
     -- its cells are set
-    step-entered : (u : List Bool) (D : Node → Type 0) → length u ≡ 12 * 1024 → Stamped s D u → Stamped s (λ q. D q ⊎ (q ≡ it (a.next - 1))) (stamped u y.kind y.target y.owner y.depth)
-    step-entered u D l S =
-        subst (λ (j : ℕ). Stamped s (λ q. D q ⊎ (q ≡ it j)) (stamped u y.kind y.target y.owner y.depth)) z.number (rw e (entered read refl u D l S))
+    step-entered : (u : List Bool) (D : Node → Type 0) → length u ≡ 12 * 1024 → Stamped s D u → Stamped s (λ q. D q ⊎ (q ≡ it i)) (stamped u y.kind y.target y.owner y.depth)
+    step-entered u D l S = rw e (entered read refl u D l S)
 
-    pub enter-turn : (u : List Bool) {u' : List Bool} → length u ≡ 12 * 1024 → u' ≡ stamped u y.kind y.target y.owner y.depth → EnterLoop s p u a.next → EnterLoop s p u' b.next
-    enter-turn u l q c =
-        let v = stamped u y.kind y.target y.owner y.depth in
-        rw q
-        (turn T (is_pointer s) (λ D. Stamped s D v) (stamped-same s v) p here (λ D. Stamped s D u) c z.some z.on (λ S. step-entered u (Done s p (a.next - 1)) l S))
-
-  pub check-end : {v : ℕ} → Checked s p v → v ≡ 0 → false ≡ conflicts_with_earlier s p
-  unfolding conflicts_with_earlier tree_pointers
-  check-end a z = sym (seek-end T (is_pointer s) p here (clash s p) a z)
-
-  pub enter-start : {h v : ℕ} (u : List Bool) → h ≡ get_or t (p + 0) 0 → v ≡ get_or t (h + 8) 0 → Stamped s (λ q. q.place < p) u → EnterLoop s p u v
-  enter-start u a b S = begin T (is_pointer s) (λ D. Stamped s D u) (stamped-same s u) p here a b S
-
-  pub enter-end : {v : ℕ} (u : List Bool) → EnterLoop s p u v → v ≡ 0 → Stamped s (λ q. q.place < next s p) u
-  enter-end u a z = finish T (is_pointer s) (λ D. Stamped s D u) (stamped-same s u) p here a z
+    pub enter-turn : {a b : InstancesOf} (u : List Bool) {u' : List Bool} → length u ≡ 12 * 1024 → u' ≡ stamped u y.kind y.target y.owner y.depth
+        → Following s inst p (λ D. Stamped s D u) a → StepsTo a (Some i) b → Following s inst p (λ D. Stamped s D u') b
+    enter-turn u {u'} l q g z = follow-on T p here (is_pointer s) (λ D. Stamped s D u') (stamped-same s u') g z (λ S. rw q (step-entered u (Done s p i) l S))

@@ -3,11 +3,12 @@
 #![tactic(auto)]
 
 ghost use Rattle.std.specs.Prelude.{◌≡◌, true, false, ◌*◌, ◌+◌, ◌≤◌, ◌<◌, length, get_or, replicate};
+ghost use Rattle.std.specs.List.{list_any};
 ghost use Rattle.names.specs.Lists.{In};
 ghost use Rattle.recipe.specs.Records.{places, is_pointer, next, owned_kind, replaced_by_kind};
 ghost use Rattle.targets.specs.Trees.{recipe_of};
 ghost use Rattle.marks.specs.Faults.{conflicts_with_earlier, fault₉};
-ghost use Rattle.marks.specs.Cells.{any_set, Stamped, AllStamped, meets, stamped};
+ghost use Rattle.marks.specs.Cells.{Stamped, AllStamped, meets, stamped};
 ghost use Rattle.marks.specs.Pointers.{InCells, ReadAt, in_row};
 
 use recipe::Records;
@@ -30,12 +31,11 @@ pub fn owner_order(t: &[u16], p: usize, k: u8) -> usize
     cell(t, q, ELEMENT_ORDER)
 }
 
-// One of n cells from a on is set.
-fn any_set(cells: &[bool], a: usize, n: usize) -> bool
-    requires { a + n ≤ length cells.now }
-    ensures { result ≡ any_set cells.now a n }
+// One of the cells is set.
+fn any_set(cells: &[bool]) -> bool
+    ensures { result ≡ list_any (λ b. b) cells.now }
 {
-    cells[a..a + n].iter().any(|x| *x)
+    cells.iter().any(|x| *x)
 }
 
 // A mark or port in one instance: its kind, the numbers of its target and, if it has one, its owner, and its depth.
@@ -78,26 +78,27 @@ impl Pointer {
     }
 
     // A cell that it asks is set.
-    #[tactic(auto, unfolding(crate::specs::Cells::meets, crate::specs::Cells::port_cell, crate::specs::Cells::any_set))]
-    fn meets_any(self, cells: &[bool]) -> bool
-        requires { (length cells.now ≡ 12 * 1024) × InCells self }
+    #[tactic(auto, using(crate::proofs::Records::any_slice), unfolding(crate::specs::Cells::meets, crate::specs::Cells::port_cell, crate::specs::Cells::any_set))]
+    fn meets_any(self, cells: &[bool; CELLS]) -> bool
+        requires { InCells self }
         ensures { result ≡ meets cells.now self.kind self.target self.owner self.depth }
     {
         let e = 12 * self.target;
         if recipe::is_port(self.kind) {
-            return any_set(cells, e, 6 - self.depth) || any_set(cells, e + (6 + self.depth), 1);
+            return any_set(&cells[e..e + (6 - self.depth)]) || cells[e + (6 + self.depth)];
         }
         if !recipe::is_mark(self.kind) {
             return false;
         }
-        any_set(cells, e, 7 + self.depth)
-            || (recipe::is_replaced_by(self.kind) && any_set(cells, 12 * self.owner + 1, 10))
+        any_set(&cells[e..e + (7 + self.depth)])
+            || (recipe::is_replaced_by(self.kind)
+                && any_set(&cells[12 * self.owner + 1..12 * self.owner + 11]))
     }
 
     // Sets its cells.
     #[tactic(auto, unfolding(crate::specs::Cells::stamped, crate::specs::Cells::mark_cell, crate::specs::Cells::port_cell, crate::specs::Cells::owner_cell, crate::specs::Cells::gone_cell))]
-    fn stamp(self, cells: &mut [bool])
-        requires { (length cells.old ≡ 12 * 1024) × InCells self }
+    fn stamp(self, cells: &mut [bool; CELLS])
+        requires { InCells self }
         ensures { cells.new ≡ stamped cells.old self.kind self.target self.owner self.depth }
     {
         let e = 12 * self.target;
@@ -118,8 +119,8 @@ impl Pointer {
 }
 
 // The record at p, a mark or port, conflicts with an earlier one.
-fn conflicts_at(tree: &Tree, p: usize, cells: &[bool]) -> bool
-    requires { In p (places (recipe_of tree.now)) × ((is_pointer (recipe_of tree.now) p ≡ true) × (Stamped (recipe_of tree.now) (λ q. q.place < p) cells.now × (length cells.now ≡ 12 * 1024))) }
+fn conflicts_at(tree: &Tree, p: usize, cells: &[bool; CELLS]) -> bool
+    requires { In p (places (recipe_of tree.now)) × ((is_pointer (recipe_of tree.now) p ≡ true) × Stamped (recipe_of tree.now) (λ q. q.place < p) cells.now) }
     ensures { result ≡ conflicts_with_earlier (recipe_of tree.now) p }
 {
     let pointer = Pointer::read(tree.source.bytes, tree.shadow, p);
@@ -132,9 +133,9 @@ fn conflicts_at(tree: &Tree, p: usize, cells: &[bool]) -> bool
 }
 
 // Sets the cells of the record at p, a mark or port, in each instance of its definition.
-fn enter_at(tree: &Tree, p: usize, cells: &mut [bool])
-    requires { In p (places (recipe_of tree.now)) × ((is_pointer (recipe_of tree.now) p ≡ true) × (Stamped (recipe_of tree.now) (λ q. q.place < p) cells.old × (length cells.old ≡ 12 * 1024))) }
-    ensures { Stamped (recipe_of tree.now) (λ q. q.place < next (recipe_of tree.now) p) cells.new × (length cells.new ≡ 12 * 1024) }
+fn enter_at(tree: &Tree, p: usize, cells: &mut [bool; CELLS])
+    requires { In p (places (recipe_of tree.now)) × ((is_pointer (recipe_of tree.now) p ≡ true) × Stamped (recipe_of tree.now) (λ q. q.place < p) cells.old) }
+    ensures { Stamped (recipe_of tree.now) (λ q. q.place < next (recipe_of tree.now) p) cells.new }
 {
     let pointer = Pointer::read(tree.source.bytes, tree.shadow, p);
     for i in tree.instances_of(p) {
@@ -143,7 +144,7 @@ fn enter_at(tree: &Tree, p: usize, cells: &mut [bool])
 }
 
 // Row 9: the first record that conflicts with an earlier one; where there is none, the cells that all records set.
-pub fn first_conflict(tree: &Tree, cells: &mut [bool]) -> Option<usize>
+pub fn first_conflict(tree: &Tree, cells: &mut [bool; CELLS]) -> Option<usize>
     requires { cells.old ≡ replicate (12 * 1024) false }
     ensures { (result ≡ fault₉ (recipe_of tree.now)) × (result ≡ None → AllStamped (recipe_of tree.now) cells.new × (length cells.new ≡ 12 * 1024)) }
 {

@@ -1,5 +1,5 @@
 -- A name's place in an index, what stands there, and the first repeat. Assumes nothing.
-use Rattle.std.specs.Prelude.{Bool, Option, None, Some}
+use Rattle.std.specs.Prelude.{Bool, Option, None, Some, unwrap_or}
 use mathlib.Core.Path.{◌≡◌, sym, ap, ◌∙◌, subst}
 use mathlib.Core.Bool.{true, false}
 use mathlib.Core.List.{List}
@@ -7,7 +7,7 @@ use Prim.Native.Nat.{ℕ, ◌+◌, ◌-◌, ◌<◌, ◌≤◌}
 use native.Mathlib.Omega.{arith}
 use lib.ListN.{get_or, length, take, drop}
 use lib.Dec.{ltb}
-use borrow.Author.Tests.{ltb-true, ltb-false}
+use borrow.Author.Tests.{lt-ltb, le-ltb, ltb-true, ltb-false}
 use Rattle.std.specs.declared.slice.Windows.{Windows}
 use Rattle.std.specs.Bool.{then_some}
 use Rattle.std.specs.Option.{MatchOption}
@@ -20,7 +20,7 @@ use Rattle.names.specs.Order.{before}
 use Rattle.name_index.specs.declared.Records.{Records}
 use Rattle.name_index.specs.Index.{ordered, is_repeat}
 use Rattle.name_index.specs.Positions.{count, entry, total_entry}
-use Rattle.names.proofs.Tests.{by_cases, not-both, three}
+use Rattle.names.proofs.Tests.{by_cases, by-option, not-both, not_none, the-some, three}
 use Rattle.names.proofs.Lists.{same_true, same_false, same-eq, eq-same}
 use Rattle.names.proofs.Scans.{scan-at, scan-none, scan-some, some-scan}
 use Rattle.names.proofs.Orders.{le-lt, antisym, irreflexive}
@@ -271,6 +271,39 @@ module _ (r : Records) (xs : List ℕ) (e : xs ≡ ordered (entry r) 0 (count r)
       by_cases (ltb best (length xs))
       (λ e. rw e (sym (seen_at (entry r) xs (count r) ranks w.seen over (omega (arith, ltb-true best (length xs) e, ranks.long)))))
       (λ e. rw e (sym (seen_none (entry r) xs (count r) ranks w.seen over (omega (arith, ltb-false best (length xs) e, ranks.long)))))
+
+  -- the same of the first repeat as the loop has it, or none yet
+  pub record ScanningTo (s : Windows ℕ) (o : Option ℕ) : Type 0 where
+    pub to : Scanning s (unwrap_or o (length xs))
+    pub low : (p : ℕ) → o ≡ Some p → p < length xs
+
+  -- whether p is before the one that o has
+  pub earlier : {p : ℕ} (o : Option ℕ) {b : Bool} → p < length xs → (o ≡ None → b ≡ true) → ((x : ℕ) → o ≡ Some x → b ≡ ltb p x) → b ≡ ltb p (unwrap_or o (length xs))
+  earlier {p} o h f g = by-option o (λ e. rw e (f e ∙ sym (lt-ltb p (length xs) h))) (λ x e. rw e (g x e))
+
+  pub to-start : {s : Windows ℕ} → windows_size s ≡ 2 → windows_rest s ≡ xs → ScanningTo s None
+  to-start z e = record { to = scanning-start z e; low = λ p f. not_none f }
+
+  module _ {s t : Windows ℕ} {q p : ℕ} {o : Option ℕ} (w : ScanningTo s o) (m : Pair s t q p) where
+    pub pair-low : p < length xs
+    pair-low = omega (arith, m.second, m.room, w.to.short, ranks.long, ranks.below (length xs - length (windows_rest s) + 1) (omega (arith, m.room, w.to.short, ranks.long)))
+
+    pub to-twin : ltb p (unwrap_or o (length xs)) ≡ true → {b : Bool} → b ≡ same (total_entry r q) (total_entry r p) → b ≡ true → ScanningTo t (Some p)
+    to-twin h e f = record { to = scanning_twin w.to m (ltb-true p (unwrap_or o (length xs)) h) e f; low = λ x y. omega (arith, pair-low, the-some y) }
+
+    pub to-other : {b : Bool} → b ≡ same (total_entry r q) (total_entry r p) → b ≡ false → ScanningTo t o
+    to-other e f = record { to = scanning-other w.to m e f; low = w.low }
+
+    pub to-pass : ltb p (unwrap_or o (length xs)) ≡ false → ScanningTo t o
+    to-pass h = record { to = scanning-pass w.to m (ltb-false p (unwrap_or o (length xs)) h); low = w.low }
+
+  pub to-end : {s : Windows ℕ} {o : Option ℕ} → ScanningTo s o → length (windows_rest s) < 2 → o ≡ scan (is_repeat (entry r)) (count r)
+  to-end {o = o} w l =
+      let kept : then_some (ltb (unwrap_or o (length xs)) (length xs)) (unwrap_or o (length xs)) ≡ o =
+      by-option o
+      (λ e. rw (e, le-ltb (length xs) (length xs) (omega arith)))
+      (λ p e. rw (e, lt-ltb p (length xs) (w.low p e))) in
+      sym kept ∙ scanning-end w.to l
 
 -- ---- an order of the total entries is one of the entries
 pub ordered-total : (r : Records) (n : ℕ) → n ≡ count r → ordered (total_entry r) 0 n ≡ ordered (entry r) 0 (count r)

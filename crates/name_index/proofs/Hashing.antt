@@ -1,12 +1,14 @@
 -- How the number of a name is computed, and that such keys, or none, change no answer. Assumes nothing.
 use Rattle.std.specs.Prelude.{is_some}
 use mathlib.Core.Path.{◌≡◌, refl, sym, ap, ◌∙◌}
-use mathlib.Core.Bool.{false}
 use mathlib.Core.List.{List, [], ◌∷◌}
 use Prim.Native.Nat.{ℕ, zero, suc, ◌+◌, ◌-◌, ◌*◌, ◌/◌, ◌%◌, ◌<◌, ◌≤◌}
 use native.Mathlib.Nat.{add-zero, add_assoc}
 use Rattle.std.specs.Int.{w64, from_le_bytes}
 use Rattle.std.specs.Simd.{first_chunks}
+use Rattle.std.specs.Ordering.{nat_cmp}
+use Rattle.std.specs.Cmp.Lexicographic.{slice_cmp}
+use Rattle.std.proofs.Common.{Ordering}
 use native.Mathlib.Omega.{arith}
 use lib.ListN.{length, get_or, take, drop, length-drop}
 use lib.Seq.{get_or-take, get_or-drop, take_all}
@@ -15,7 +17,6 @@ use lib.Dec.{eqb, ltb}
 use borrow.Author.Tests.{eq-eqb, ne_eqb, lt-ltb, le-ltb}
 use Rattle.names.specs.Lists.{same}
 use Rattle.names.specs.Scans.{scan}
-use Rattle.names.specs.Order.{before}
 use Rattle.name_index.specs.declared.Layout.{Layout}
 use Rattle.name_index.specs.Hash.{four_at, mixed, mixed_from, hash_of}
 use Rattle.name_index.specs.Index.{name_of, keyed_name, Hashed, is_repeat}
@@ -88,31 +89,15 @@ hash-long f {e} {h} l p q u =
     rw (u, t, mixed-here f (length f - 8) h, s, p, le-ltb (length f) 8 l)
 
 -- ---- keys in front of names
--- of an entry e, which has the key k
-pub before-key : {k m : ℕ} {e xs : List ℕ} (ys : List ℕ) → e ≡ k ∷ xs → (k ≡ m → ⊥) → ltb k m ≡ before e (m ∷ ys)
-unfolding before
-before-key {k} {m} ys e n = rw (e, ne_eqb k m n)
+-- how an entry e, which has the key k, stands to a key and a name
+pub order-key : {k m : ℕ} {e xs : List ℕ} {o : Ordering} (ys : List ℕ) → e ≡ k ∷ xs → (k ≡ m → ⊥) → o ≡ nat_cmp k m → o ≡ slice_cmp nat_cmp e (m ∷ ys)
+order-key {k} {m} ys e n o = rw (e, o) (by_cases (ltb k m) (λ t. rw t) (λ t. rw (t, ne_eqb k m n)))
 
-pub before-name : {k m x : ℕ} {e xs : List ℕ} (ys : List ℕ) → x ∷ xs ≡ e → k ≡ x → k ≡ m → before xs ys ≡ before e (m ∷ ys)
-unfolding before
-before-name {k} {m} {x} ys e q f = rw (← e, ← q, eq-eqb k m f)
+pub order-name : {k m x : ℕ} {e xs : List ℕ} (ys : List ℕ) → x ∷ xs ≡ e → k ≡ x → k ≡ m → slice_cmp nat_cmp xs ys ≡ slice_cmp nat_cmp e (m ∷ ys)
+order-name {k} {m} {x} ys e q f = rw (← e, ← q, le-ltb k m (omega arith), eq-eqb k m f)
 
-pub same_key : {k m : ℕ} {e xs : List ℕ} (ys : List ℕ) → e ≡ k ∷ xs → (k ≡ m → ⊥) → false ≡ same e (m ∷ ys)
-same_key {k} {m} ys e n = rw (e, ne_eqb k m n)
-
-pub same_name : {k m x : ℕ} {e xs : List ℕ} (ys : List ℕ) → x ∷ xs ≡ e → k ≡ x → k ≡ m → same xs ys ≡ same e (m ∷ ys)
+same_name : {k m x : ℕ} {e xs : List ℕ} (ys : List ℕ) → x ∷ xs ≡ e → k ≡ x → k ≡ m → same xs ys ≡ same e (m ∷ ys)
 same_name {k} {m} {x} ys e q f = rw (← e, ← q, eq-eqb k m f)
-
--- of two entries
-pub before-names : {x y : ℕ} {xs ys e f : List ℕ} → x ∷ xs ≡ e → y ∷ ys ≡ f → x ≡ y → before xs ys ≡ before e f
-unfolding before
-before-names {x} {y} e f k = rw (← e, ← f, eq-eqb x y k)
-
-pub same_keys : {x y : ℕ} {xs ys e f : List ℕ} → e ≡ x ∷ xs → f ≡ y ∷ ys → (x ≡ y → ⊥) → false ≡ same e f
-same_keys {x} {y} e f n = rw (e, f, ne_eqb x y n)
-
-pub same-names : {x y : ℕ} {xs ys e f : List ℕ} → x ∷ xs ≡ e → y ∷ ys ≡ f → x ≡ y → same xs ys ≡ same e f
-same-names {x} {y} e f k = rw (← e, ← f, eq-eqb x y k)
 
 -- names that agree have keys that agree: the keys say nothing of their own
 pub same-keyed : {k m : ℕ} (xs ys : List ℕ) → (xs ≡ ys → k ≡ m) → same (k ∷ xs) (m ∷ ys) ≡ same xs ys

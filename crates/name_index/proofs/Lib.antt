@@ -1,5 +1,6 @@
 -- The laws of the index of names, for this floor and those above.
 pub mod Sorted
+pub mod Runs
 pub mod Positions
 pub mod Finds
 pub mod Hashing

@@ -2,3 +2,4 @@
 pub mod Hash
 pub mod Index
 pub mod Positions
+pub mod Runs

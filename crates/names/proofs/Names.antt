@@ -2,6 +2,7 @@
 use mathlib.Core.Path.{◌≡◌, refl, sym, ap, ◌∙◌}
 use mathlib.Core.Bool.{Bool, true, false, not, ◌&&◌, false≢true}
 use mathlib.Core.List.{List, [], ◌∷◌, ◌++◌}
+use mathlib.Core.Logic.{◌⊎◌, inl, inr}
 use Prim.Native.Nat.{ℕ, zero, suc, ◌+◌, ◌-◌, ◌≤◌}
 use native.Mathlib.Omega.{arith}
 use native.Mathlib.Nat.{add-sub_cancel_left}
@@ -15,7 +16,6 @@ use Rattle.names.specs.Lists.{every, keep_while, same, padded}
 use Rattle.names.specs.Names.{is_letter, is_digit, underscore, is_first, is_other, non_zero, are_name_characters, text, is_blank, is_name, is_name_or_blank, field_of, field_at}
 use Rattle.names.specs.declared.Field.{Field}
 use Rattle.names.specs.declared.Field.TheVariants.{Name, Blank, Neither}
-use mathlib.Core.Logic.{◌⊎◌, inl, inr}
 use Rattle.names.proofs.Runs.{kept-prefix}
 use Rattle.names.proofs.Tests.{by_cases, not-both, and_left, and_right, both}
 use Rattle.names.proofs.Lists.{every-on, every-off, while-on, while-off, take_while, every_append, every-replicate}

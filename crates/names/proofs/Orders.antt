@@ -5,8 +5,13 @@ use mathlib.Core.Bool.{true, false, false≢true, true≢false}
 use mathlib.Core.List.{List, [], ◌∷◌}
 use Prim.Native.Nat.{ℕ, ◌<◌}
 use native.Mathlib.Omega.{arith}
-use lib.Dec.{eqb}
-use borrow.Author.Tests.{eq-eqb, ne_eqb, le-ltb, eqb-true, eqb-false, ltb-true, ltb-false}
+use lib.Dec.{eqb, ltb}
+use borrow.Author.Tests.{eq-eqb, ne_eqb, lt-ltb, le-ltb, eqb-true, eqb-false, ltb-true, ltb-false}
+use Rattle.std.specs.Ordering.{nat_cmp, is_lt, is_gt, is_eq}
+use Rattle.std.specs.Cmp.Lexicographic.{slice_cmp}
+use Rattle.std.proofs.Common.{Ordering}
+use Rattle.std.proofs.lemmas.Bool.Decides.{nat_tests}
+use Rattle.names.specs.Lists.{same}
 use Rattle.names.specs.Order.{before}
 use Rattle.names.proofs.Tests.{by_cases, not-both, apart}
 
@@ -84,3 +89,40 @@ lt-le a b c p q = by_cases (before a c) (λ e. e) (λ e. not-both p (le_trans b 
 
 pub le-lt : (a b c : List ℕ) → before b a ≡ false → before b c ≡ true → before a c ≡ true
 le-lt a b c p q = by_cases (before a c) (λ e. e) (λ e. not-both q (le_trans c a b e p))
+
+-- ---- the library's order of lists is this one, and calls two lists equal where they are the same
+cmp-equal : (x y : ℕ) → eqb x y ≡ true → nat_cmp x y ≡ Ordering.Equal
+cmp-equal x y e = grind (arith, nat_tests)
+
+pub cmp-before : (a b : List ℕ) → is_lt (slice_cmp nat_cmp a b) ≡ before a b
+unfolding before
+cmp-before [] [] = refl
+cmp-before [] (y ∷ ys) = refl
+cmp-before (x ∷ xs) [] = refl
+cmp-before (x ∷ xs) (y ∷ ys) =
+    by_cases (eqb x y)
+    (λ e. rw (cmp-equal x y e, e) (cmp-before xs ys))
+    (λ e. by_cases (ltb x y) (λ t. rw (e, t)) (λ t. rw (e, t)))
+
+pub cmp-after : (a b : List ℕ) → is_gt (slice_cmp nat_cmp a b) ≡ before b a
+unfolding before
+cmp-after [] [] = refl
+cmp-after [] (y ∷ ys) = refl
+cmp-after (x ∷ xs) [] = refl
+cmp-after (x ∷ xs) (y ∷ ys) =
+    by_cases (eqb x y)
+    (λ e. rw (cmp-equal x y e, eq-eqb y x (sym (eqb-true x y e))) (cmp-after xs ys))
+    (λ e.
+    let n = λ (z : y ≡ x). eqb-false x y e (sym z) in
+    by_cases (ltb x y)
+    (λ t. rw (e, t, ne_eqb y x n, le-ltb y x (omega (arith, ltb-true x y t))))
+    (λ t. rw (e, t, ne_eqb y x n, lt-ltb y x (apart (ltb-false x y t) n))))
+
+pub cmp-same : (a b : List ℕ) → is_eq (slice_cmp nat_cmp a b) ≡ same a b
+cmp-same [] [] = refl
+cmp-same [] (y ∷ ys) = refl
+cmp-same (x ∷ xs) [] = refl
+cmp-same (x ∷ xs) (y ∷ ys) =
+    by_cases (eqb x y)
+    (λ e. rw (cmp-equal x y e, e) (cmp-same xs ys))
+    (λ e. by_cases (ltb x y) (λ t. rw (e, t)) (λ t. rw (e, t)))

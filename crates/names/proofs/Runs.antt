@@ -1,25 +1,18 @@
--- Runs of bytes from the start of a field, eight at a time and one by one: how long they are, and what two fields with a common start have behind it.
+-- Runs of bytes from the start of a field, eight at a time and one by one: how long they are, and what a run of equal bytes says of two names.
 -- Assumes nothing.
 use mathlib.Core.Path.{◌≡◌, refl, sym, ap, ◌∙◌}
-use mathlib.Core.Bool.{Bool, true, false, not, ◌&&◌}
-use mathlib.Core.Logic.{◌⊎◌, inl, inr}
+use mathlib.Core.Bool.{Bool, true, false, ◌&&◌}
 use mathlib.Core.List.{List, [], ◌∷◌}
-use Prim.Native.Nat.{ℕ, zero, suc, ◌+◌, ◌-◌, ◌*◌, ◌/◌, ◌<◌, ◌≤◌, min}
+use Prim.Native.Nat.{ℕ, zero, suc, ◌+◌, ◌-◌, ◌*◌, ◌/◌, ◌<◌, ◌≤◌}
 use native.Mathlib.Omega.{arith}
-use lib.ListN.{length, get_or, take, drop, take-append-drop, length-drop}
-use lib.Seq.{take-take, take-add, drop-drop, take_all}
-use lib.Dec.{eqb, ltb}
-use borrow.Author.Tests.{eq-eqb, lt-ltb, le-ltb, ltb-true, ltb-false}
-use Rattle.std.specs.Prelude.{Option, unwrap_or, option_map}
-use Rattle.std.specs.Bool.{Decides}
-use Rattle.std.specs.List.{fold, prefix_len, find, zip}
-use Rattle.std.specs.Cmp.Lexicographic.{pointwise}
+use lib.ListN.{length, get_or, take, drop, length-drop}
+use lib.Seq.{drop-drop, take_all, ext_get_or}
+use lib.Dec.{eqb, ltb, leb}
+use borrow.Author.Tests.{eq-eqb, ne_eqb, eqb-true, eqb-false, leb-true, leb-false}
+use Rattle.std.specs.List.{fold, prefix_len}
 use Rattle.std.specs.Simd.{first_chunks}
-use Rattle.std.proofs.Common.{length-take}
-use Rattle.std.proofs.lemmas.Bool.Decides.{nat_tests}
 use Rattle.std.proofs.lemmas.List.Folds.{length-prefix_len}
 use Rattle.std.proofs.lemmas.List.Sums.{prefix_len_is}
-use Rattle.std.proofs.lemmas.Slice.Eq.{bytes_eq-Decides}
 use Rattle.names.specs.Lists.{keep_while, every, same}
 use Rattle.names.specs.Order.{before}
 use Rattle.names.proofs.Tests.{by_cases, not-both}
@@ -82,93 +75,52 @@ pub run_length : (t : ℕ → Bool) (f : List ℕ) (n : ℕ) → n ≤ length f 
     → n ≡ length (keep_while t f)
 run_length t f n h p s = sym (kept-prefix t f ∙ prefix_len_is t f n 0 h p s)
 
--- ---- the start that two fields have in common, in steps of eight
-pub chunks-same : (m l : ℕ) (a b : List ℕ) → let k = prefix_len (λ p. pointwise eqb p.0 p.1) (zip (first_chunks 8 m a) (first_chunks 8 l b)) in
-    take (8 * k) a ≡ take (8 * k) b
-chunks-same zero l a b = refl
-chunks-same (suc m) zero a b = refl
-chunks-same (suc m) (suc l) a b =
-    by_cases (pointwise eqb (take 8 a) (take 8 b))
-    (λ e.
-    let k = prefix_len (λ p. pointwise eqb p.0 p.1) (zip (first_chunks 8 m (drop 8 a)) (first_chunks 8 l (drop 8 b))) in
-    let z : 8 * (1 + k) ≡ 8 + 8 * k = omega arith in
-    rw (e, prefix_len, z, take-add 8 (8 * k) a, take-add 8 (8 * k) b, (bytes_eq-Decides (take 8 a) (take 8 b)).0 e, chunks-same m l (drop 8 a) (drop 8 b)))
-    (λ e. rw (e, prefix_len))
+-- ---- a run by its test, number by number: the numbers below i, of those below n, pass it
+pub record Passed (t : ℕ → Bool) (n i : ℕ) : Type 0 where
+  pub within : i ≤ n
+  pub passes : (k : ℕ) → k < i → t k ≡ true
 
--- ---- what is behind a common start decides
+-- and i, where it is below n, does not
+pub record Run (t : ℕ → Bool) (n i : ℕ) : Type 0 where
+  pub passed : Passed t n i
+  pub stops : i < n → t i ≡ false
+
+pub run_is : (t : ℕ → Bool) (f : List ℕ) {n : ℕ} → Run (λ k. t (get_or f k 0)) (length f) n → n ≡ length (keep_while t f)
+run_is t f {n} r = run_length t f n r.passed.within r.passed.passes r.stops
+
+-- byte k of both is the same
+abbrev pub same_at : List ℕ → List ℕ → ℕ → Bool
+same_at a b k = eqb (get_or a k 0) (get_or b k 0)
+
+-- the first bytes that differ decide
+differ : (a b : List ℕ) (i : ℕ) → i < length a → i < length b → ((k : ℕ) → k < i → get_or a k 0 ≡ get_or b k 0) → (get_or a i 0 ≡ get_or b i 0 → ⊥)
+    → ltb (get_or a i 0) (get_or b i 0) ≡ before a b
+unfolding before
+differ [] b i h l p n = absurd (omega arith)
+differ (x ∷ xs) [] i h l p n = absurd (omega arith)
+differ (x ∷ xs) (y ∷ ys) zero h l p n = rw (ne_eqb x y n)
+differ (x ∷ xs) (y ∷ ys) (suc i) h l p n =
+    rw (eq-eqb x y (p 0 (omega arith)))
+    (differ xs ys i (omega arith) (omega arith) (λ k m. p (suc k) (omega arith)) n)
+
+-- ---- what a run of equal bytes says of two names
 module _ (a b : List ℕ) where
-  pub other_length : (length a ≡ length b → ⊥) → false ≡ same a b
-  other_length n = sym (same_false {xs = a} {ys = b} (λ e. n (ap length e)))
+  equal-at : {n i : ℕ} → Passed (same_at a b) n i → (k : ℕ) → k < i → get_or a k 0 ≡ get_or b k 0
+  equal-at p k h = eqb-true (get_or a k 0) (get_or b k 0) (p.passes k h)
 
-  pub same-behind : (n : ℕ) {r : Bool} → take n a ≡ take n b → Decides r (take (length a - n) (drop n a) ≡ take (length b - n) (drop n b)) → r ≡ same a b
-  same-behind n {r} e d =
-      let p : take (length a - n) (drop n a) ≡ drop n a = take_all _ _ (omega (arith, length-drop n a)) in
-      let q : take (length b - n) (drop n b) ≡ drop n b = take_all _ _ (omega (arith, length-drop n b)) in
-      by_cases r
+  pub other_length : (length b ≡ length a → ⊥) → false ≡ same a b
+  other_length n = sym (same_false {xs = a} {ys = b} (λ e. n (ap length (sym e))))
+
+  pub run-same : {i : ℕ} → length b ≡ length a → Run (same_at a b) (length a) i → leb (length a) i ≡ same a b
+  run-same {i} e r =
+      by_cases (leb (length a) i)
+      (λ h. h ∙ sym (eq-same (ext_get_or 0 a b (sym e) (λ k l. equal-at r.passed k (let g = leb-true (length a) i h in omega arith)))))
       (λ h.
-      let z : drop n a ≡ drop n b = sym p ∙ (d.0 h ∙ q) in
-      h ∙ sym (eq-same (sym (take-append-drop n a) ∙ (rw (e, z) (take-append-drop n b)))))
-      (λ h. h ∙ sym (same_false (λ z. not-both (d.1 (p ∙ (ap (drop n) z ∙ sym q))) h)))
+      h
+      ∙ sym
+      (same_false {xs = a} {ys = b}
+      (λ q. eqb-false (get_or a i 0) (get_or b i 0) (r.stops (leb-false (length a) i h)) (ap (λ (l : List ℕ). get_or l i 0) q))))
 
--- the first bytes in which two fields differ decide which comes first, or else the lengths
-abbrev differing : ℕ × ℕ → Bool
-differing p = not (eqb p.0 p.1)
-
-abbrev pub decide : Option (ℕ × ℕ) → Bool → Bool
-decide o d = unwrap_or (option_map (λ p. ltb p.0 p.1) o) d
-
-ltb-suc : (n m : ℕ) → ltb (suc n) (suc m) ≡ ltb n m
-ltb-suc n m = grind (arith, nat_tests)
-
-ltb-behind : (k n m : ℕ) → k ≤ n → k ≤ m → ltb (n - k) (m - k) ≡ ltb n m
-ltb-behind k n m h j = grind (arith, nat_tests)
-
-first-differs : (a b : List ℕ) → decide (find differing (zip a b)) (ltb (length a) (length b)) ≡ before a b
-unfolding before
-first-differs [] [] = refl
-first-differs [] (y ∷ ys) = lt-ltb 0 (suc (length ys)) (omega arith)
-first-differs (x ∷ xs) [] = le-ltb (suc (length xs)) 0 (omega arith)
-first-differs (x ∷ xs) (y ∷ ys) =
-    by_cases (eqb x y)
-    (λ e. rw (e, find, ltb-suc (length xs) (length ys)) (first-differs xs ys))
-    (λ e. rw (e, find))
-
--- the pairs of two lists, of which one is no longer than n
-zip-take : (n : ℕ) (a b : List ℕ) → length a ≤ n ⊎ length b ≤ n → zip (take n a) (take n b) ≡ zip a b
-zip-take zero [] b h = refl
-zip-take zero (x ∷ a) [] h = refl
-zip-take zero (x ∷ a) (y ∷ b) (inl h) = absurd (omega arith)
-zip-take zero (x ∷ a) (y ∷ b) (inr h) = absurd (omega arith)
-zip-take (suc n) [] b h = refl
-zip-take (suc n) (x ∷ a) [] h = refl
-zip-take (suc n) (x ∷ a) (y ∷ b) (inl h) = ap (λ l. (x, y) ∷ l) (zip-take n a b (inl (omega arith)))
-zip-take (suc n) (x ∷ a) (y ∷ b) (inr h) = ap (λ l. (x, y) ∷ l) (zip-take n a b (inr (omega arith)))
-
-before-behind : (i : ℕ) (a b : List ℕ) → take i a ≡ take i b → i ≤ length a → i ≤ length b → before a b ≡ before (drop i a) (drop i b)
-unfolding before
-before-behind zero a b e h k = refl
-before-behind (suc i) [] b e h k = absurd (omega arith)
-before-behind (suc i) (x ∷ a) [] e h k = absurd (omega arith)
-before-behind (suc i) (x ∷ a) (y ∷ b) e h k =
-    let p : x ≡ y = cc in
-    let q : take i a ≡ take i b = cc in
-    rw (eq-eqb x y p) (before-behind i a b q (omega arith) (omega arith))
-
--- and what follows a common start i of two fields, up to the end n of the shorter
-module _ (a b : List ℕ) {i n : ℕ} (e : n ≡ min (length a) (length b)) (w : (i ≤ length (take n a)) × (i ≤ length (take n b))) where
-  pub decides-behind : {o : Option (ℕ × ℕ)} → take i (take n a) ≡ take i (take n b) → o ≡ find (λ p. not (eqb p.0 p.1)) (zip (take (n - i) (drop i a)) (take (n - i) (drop i b)))
-      → decide o (ltb (length a) (length b)) ≡ before a b
-  decides-behind {o} z p =
-      let h : i ≤ n = omega (arith, w.0, length-take n a) in
-      let ia : i ≤ length a = omega (arith, w.0, length-take n a) in
-      let ib : i ≤ length b = omega (arith, w.1, length-take n b) in
-      let short : length (drop i a) ≤ n - i ⊎ length (drop i b) ≤ n - i =
-      by_cases (ltb (length a) (length b))
-      (λ t. inl (omega (arith, length-drop i a, ltb-true (length a) (length b) t)))
-      (λ t. inr (omega (arith, length-drop i b, ltb-false (length a) (length b) t))) in
-      let all : find differing (zip (take (n - i) (drop i a)) (take (n - i) (drop i b))) ≡ find differing (zip (drop i a) (drop i b)) =
-      ap (find differing) (zip-take (n - i) (drop i a) (drop i b) short) in
-      let lengths : ltb (length (drop i a)) (length (drop i b)) ≡ ltb (length a) (length b) =
-      rw (length-drop i a, length-drop i b) (ltb-behind i (length a) (length b) ia ib) in
-      let starts : take i a ≡ take i b = sym (take-take i n a h) ∙ (z ∙ take-take i n b h) in
-      rw (p ∙ all, ← lengths) (first-differs (drop i a) (drop i b) ∙ sym (before-behind i a b starts ia ib))
+  pub run-differ : {n i : ℕ} → n ≤ length a → n ≤ length b → Run (same_at a b) n i → i < n → ltb (get_or a i 0) (get_or b i 0) ≡ before a b
+  run-differ {n} {i} ha hb r h =
+      differ a b i (omega arith) (omega arith) (equal-at r.passed) (eqb-false (get_or a i 0) (get_or b i 0) (r.stops h))

@@ -57,6 +57,28 @@ module _ (t : ℕ → Bool) (n : ℕ) where
   unfolding scan
   some-scan q h e = some_first t 0 n q (omega arith) (omega arith) e
 
+-- ---- a loop that scans: what is asked of all is what is asked from i on
+pub scan-start : (t : ℕ → Bool) (n : ℕ) → scan t n ≡ first_from t 0 (n - 0)
+unfolding scan
+scan-start t n = rw (sub-zero n)
+
+from_suc : (t : ℕ → Bool) (i n : ℕ) → i < n → first_from t i (n - i) ≡ cond (t i) (Some i) (first_from t (i + 1) (n - (i + 1)))
+unfolding first_from
+from_suc t i n h =
+    let e : n - i ≡ suc (n - (i + 1)) = omega arith in
+    let k : i + 1 ≡ suc i = omega arith in
+    ap (first_from t i) e ∙ rw k
+
+pub scan-more : (t : ℕ → Bool) (i n : ℕ) → i < n → t i ≡ false → first_from t i (n - i) ≡ first_from t (i + 1) (n - (i + 1))
+scan-more t i n h e = from_suc t i n h ∙ rw e
+
+pub scan-hit : (t : ℕ → Bool) (i n : ℕ) → i < n → t i ≡ true → first_from t i (n - i) ≡ Some i
+scan-hit t i n h e = from_suc t i n h ∙ rw e
+
+pub scan-over : (t : ℕ → Bool) (i n : ℕ) → n ≤ i → first_from t i (n - i) ≡ None
+unfolding first_from
+scan-over t i n h = let e : n - i ≡ 0 = omega arith in rw e
+
 -- ---- a position that a scan gives is below n, and a scan looks at nothing else
 first_below_lem : (t : ℕ → Bool) (p n x : ℕ) → first_from t p n ≡ Some x → x < p + n
 unfolding first_from

@@ -1,15 +1,15 @@
--- Bytes stored one behind the other, what stands where afterwards, and a copy of some of them.
+-- Bytes stored one behind the other, what stands where afterwards, and a copy of them.
 -- Assumes nothing.
 use mathlib.Core.Path.{◌≡◌, refl, sym, ap, ◌∙◌}
 use Prim.Native.Nat.{ℕ, zero, suc, ◌+◌, ◌-◌, ◌≤◌, ◌<◌}
 use native.Mathlib.Omega.{arith}
 use native.Mathlib.Nat.{add-zero, suc-add, add-suc, add-sub_cancel_left}
-use native.Mathlib.Numerals.{add-one}
 use mathlib.Core.List.{List, [], ◌∷◌, ◌++◌, append_assoc}
-use lib.ListN.{length, get_or, set, take, drop, length-set, length-drop}
+use lib.ListN.{length, get_or, set, drop, length-set, length-drop}
 use borrow.Rule.Slice.PartMut.{put_mid}
 use Rattle.std.proofs.lemmas.List.Edits.{sets-eq}
-use lib.Seq.{sets, drop-drop, take-suc, get_or-drop, get_or-set_same, get_or-set_other, length-take-le}
+use Rattle.names.specs.Names.{field_at}
+use lib.Seq.{sets, drop-drop, get_or-set_same, get_or-set_other, length-take-le}
 
 pub sets-append : (xs l : List ℕ) (i : ℕ) (ys : List ℕ) → sets l i (xs ++ ys) ≡ sets (sets l i xs) (i + length xs) ys
 sets-append [] l i ys = rw add-zero
@@ -32,31 +32,11 @@ stored_at (x ∷ xs) out at (suc k) h l =
     ap (λ (j : ℕ). get_or (sets (set out at x) (suc at) xs) j 0) e
     ∙ stored_at xs (set out at x) (suc at) k (omega (arith, length-set out at x)) (omega arith)
 
--- a slice of them that is copied whole
-pub put-part : (s out : List ℕ) (a n at : ℕ) {part : List ℕ} → a + n ≤ length s → at + n ≤ length out → part ≡ take (a + n - a) (drop a s)
-    → put_mid at (at + n - at) out part ≡ sets out at (take n (drop a s))
-put-part s out a n at h k e =
-    let l : length (take n (drop a s)) ≡ n = length-take-le n (drop a s) (omega (arith, length-drop a s)) in
-    rw (e, add-sub_cancel_left a n, add-sub_cancel_left at n, drop-drop) (sym (rw (l, append_assoc) at (sets-eq (take n (drop a s)) out at (omega arith))))
+-- all of them, copied as a slice
+pub put-whole : (xs out : List ℕ) (at : ℕ) {part : List ℕ} → at + length xs ≤ length out → part ≡ xs → put_mid at (at + length xs - at) out part ≡ sets out at xs
+put-whole xs out at h e = rw (e, add-sub_cancel_left at (length xs), drop-drop) (sym (rw append_assoc at (sets-eq xs out at (omega arith))))
 
--- ---- one more byte
-pub put_one : (out₀ out : List ℕ) (at : ℕ) (vs : List ℕ) (k x : ℕ) → length vs ≡ k → out ≡ sets out₀ at vs → set out (at + k) x ≡ sets out₀ at (vs ++ x ∷ [])
-put_one out₀ out at vs k x l e = rw (e, ← l) (sym (sets-append vs out₀ at (x ∷ [])))
-
--- k bytes are copied
-pub record Copied (s : List ℕ) (a : ℕ) (out₀ : List ℕ) (at : ℕ) (out : List ℕ) (k : ℕ) : Type 0 where
-  pub long : length out ≡ length out₀
-  pub is : out ≡ sets out₀ at (take k (drop a s))
-
-pub copied-one : {s : List ℕ} {a : ℕ} {out₀ : List ℕ} {at : ℕ} {out : List ℕ} {k : ℕ} → Copied s a out₀ at out k → a + k < length s
-    → Copied s a out₀ at (set out (at + k) (get_or s (a + k) 0)) (k + 1)
-copied-one {s} {a} {out₀} {at} {out} {k} z h =
-    let f = drop a s in
-    let l : k < length f = omega (arith, length-drop a s) in
-    let more : take k f ++ (get_or s (a + k) 0 ∷ []) ≡ take (k + 1) f = sym (rw (add-one, take-suc f k 0 l, get_or-drop a s k 0)) in
-    record {
-      long = length-set out (at + k) (get_or s (a + k) 0) ∙ z.long;
-      is =
-          put_one out₀ out at (take k f) k (get_or s (a + k) 0) (length-take-le k f (omega arith)) z.is
-          ∙ ap (sets out₀ at) more;
-    }
+-- a field that lies within the bytes has its width
+pub field-long : (s : List ℕ) (a n : ℕ) → a + n ≤ length s → length (field_at n s a) ≡ n
+unfolding field_at
+field-long s a n h = length-take-le n (drop a s) (omega (arith, length-drop a s))

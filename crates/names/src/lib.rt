@@ -1,14 +1,17 @@
 // Name fields of any width: a name and zeros behind it, or zeros alone. They are read, compared, copied and cut here, and nowhere else.
-// Public calls: read_field, is_name, is_optional, is_blank, is_same, comes_before, unpadded, Reason::number, judge. None of them requires anything. For the floors above: field_at, put_bytes.
+// Public calls: read_field, is_name, is_optional, is_blank, is_same, compare, unpadded, Reason::number, judge. None of them requires anything. For the floors above: field_at, put_bytes.
 #![tactic(auto)]
 
-ghost use Rattle.std.specs.Prelude.{◌≡◌, [], ◌∷◌, ◌+◌, ◌≤◌, length, take, drop};
+ghost use Rattle.std.specs.Prelude.{◌≡◌, [], ◌∷◌, ◌+◌, ◌≤◌, length};
+ghost use Rattle.std.specs.Ordering.{nat_cmp};
+ghost use Rattle.std.specs.Cmp.Lexicographic.{slice_cmp};
 ghost use Rattle.std.specs.Result.{result_err};
 ghost use Rattle.std.proofs.lemmas.List.Edits.{sets};
 ghost use Rattle.names.specs.Lists.{same, every, keep_while};
 ghost use Rattle.names.specs.Names.{is_first, is_other, is_blank, is_name, is_name_or_blank, text, field_of, field_at};
-ghost use Rattle.names.specs.Order.{before};
 ghost use Rattle.names.specs.Judging.{row_number, row, judged};
+
+use std::cmp::Ordering;
 
 // Why a recipe, a table or a name is refused: the rows of 01's "Verdicts", and of 02's papers.
 #[derive(Clone, Copy)]
@@ -88,39 +91,18 @@ fn others(f: &[u8]) -> usize
     n + f[n..].iter().take_while(|&&b| is_other(b)).count()
 }
 
-// How many bytes two fields have in common from the start, in steps of eight. Two arrays of eight are compared as one machine word.
-#[inline]
-fn same_by_eight(a: &[u8], b: &[u8]) -> usize
-    ensures within { (result ≤ length a.now) × (result ≤ length b.now) }
-    ensures same { take result a.now ≡ take result b.now }
-{
-    let (xs, _) = a.as_chunks::<8>();
-    let (ys, _) = b.as_chunks::<8>();
-    8 * xs.iter().zip(ys).take_while(|(x, y)| x == y).count()
-}
-
 // Whether two fields are the same.
 pub fn is_same(a: &[u8], b: &[u8]) -> bool
     ensures { result ≡ same a.now b.now }
 {
-    if a.len() != b.len() {
-        return false;
-    }
-    let n = same_by_eight(a, b);
-    a[n..].iter().zip(&b[n..]).all(|(x, y)| x == y)
+    a == b
 }
 
-// Whether a comes before b: the first byte in which they differ decides, or the length.
-pub fn comes_before(a: &[u8], b: &[u8]) -> bool
-    ensures { result ≡ before a.now b.now }
+// How a stands to b: the first byte in which they differ decides, or the length.
+pub fn compare(a: &[u8], b: &[u8]) -> Ordering
+    ensures { result ≡ slice_cmp nat_cmp a.now b.now }
 {
-    let n = a.len().min(b.len());
-    let i = same_by_eight(&a[..n], &b[..n]);
-    a[i..n]
-        .iter()
-        .zip(&b[i..n])
-        .find(|(x, y)| x != y)
-        .map_or(a.len() < b.len(), |(x, y)| x < y)
+    a.cmp(b)
 }
 
 // Whether a field is blank: its first byte is zero, and each is the same as the one before it.
@@ -215,10 +197,10 @@ pub fn judge(reason: Reason, fault: Option<usize>) -> Result<(), Refusal>
     }
 }
 
-// Copies the n bytes from a on to the offset `at`.
-pub fn put_bytes(from: &[u8], a: usize, n: usize, out: &mut [u8], at: usize)
-    requires { (a + n ≤ length from.now) × (at + n ≤ length out.old) }
-    ensures { out.new ≡ sets out.old at (take n (drop a from.now)) }
+// Copies the bytes to the offset `at`.
+pub fn put_bytes(bytes: &[u8], out: &mut [u8], at: usize)
+    requires { at + length bytes.now ≤ length out.old }
+    ensures { out.new ≡ sets out.old at bytes.now }
 {
-    out[at..at + n].copy_from_slice(&from[a..a + n]);
+    out[at..at + bytes.len()].copy_from_slice(bytes);
 }

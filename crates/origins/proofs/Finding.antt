@@ -19,21 +19,23 @@ use Rattle.recipe.specs.Records.{Recipe, name}
 use Rattle.recipe.proofs.Definitions.{name-short}
 use Rattle.tree.specs.Faults.{fault₇}
 use Rattle.tree.specs.Numbers.{number}
+use Rattle.tree.specs.Steps.{next_of}
 use Rattle.tree.specs.Tree.{Node, definition_at, instances, node, tree_elements}
 use Rattle.tree.proofs.Nodes.{in_tree}
 use Rattle.marks.specs.Marks.{is_gone, survivors}
 use Rattle.compose.specs.Composed.{Composed}
 use Rattle.flat_names.specs.Prefixes.{flat_name}
-use Rattle.flat_names.specs.Rows.{prefixes_of}
+use Rattle.flat_names.specs.Rows.{Naming, prefixes_of}
 use Rattle.flat_names.proofs.Filling.{naming}
 use Rattle.flat_names.proofs.Puts.{element-field, element-low, prefixes-short}
 use Rattle.composer.specs.Flat.{flat_field}
 use Rattle.composer.specs.Writing.{element_at}
 use Rattle.composer.proofs.ByNumber.{element-in, element-number, instance-low, path-is, record_is}
+use Rattle.composer.proofs.Handed.{fated}
 use Rattle.composer.proofs.Surviving.{gone_at, survives-at}
 use Rattle.origins.specs.Origins.{is_named, origin_of}
-use Rattle.origins.specs.Search.{NameRequires, SearchRequires, ends_with, fit_cell, fit_of, is_origin}
-use Rattle.origins.proofs.Fits.{fit_none, fit-same, fit-some}
+use Rattle.origins.specs.Search.{NameRequires, PrefixFits, ends_with, fit_of, is_origin}
+use Rattle.origins.proofs.Fitting.{fit_none, fit-read, fit-some}
 
 -- ---- the zeros behind a name
 -- behind what is before it
@@ -51,42 +53,44 @@ padded-more w k n h l =
     ∙ ap (λ (z : List ℕ). n ++ z) (sym (replicate-append-replicate (w - length n) (k - w) 0))
     ∙ sym (append_assoc n (replicate (w - length n) 0) (replicate (k - w) 0))
 
--- ---- the name of the element q in f, from l on
-module _ {s : Recipe} {q : ℕ} {f : List ℕ} {l : ℕ} (R : NameRequires s q f l) where
+-- ---- the name of the element q
+module _ {s : Recipe} (N : Naming s) {q l : ℕ} (R : NameRequires s q l) where
   pub name-inside : q + 1 + s.width < length s.bytes
-  name-inside = element-low s R.naming R.definition q R.element
+  name-inside = element-low s N R.definition q R.element
 
-  pub in-name : l + s.width ≤ length f
-  unfolding flat_width
-  in-name = omega (arith, R.short, R.long)
+  -- in f, from l on
+  module _ (f : List ℕ) (long : length f ≡ flat_width s.width) where
+    pub in-name : l + s.width ≤ length f
+    unfolding flat_width
+    in-name = omega (arith, R.short, long)
 
-  module _ {b : Bool} (b-is : b ≡ same (field_at s.width s.bytes (q + 1)) (field_at s.width f l)) where
-    split : ends_with s f q l ≡ b && is_blank (drop (l + s.width) f)
-    unfolding ends_with field_at is_blank flat_width
-    split =
-        let w = s.width in
-        let own : List ℕ = padded w (name s q) in
-        let short = name-short s q in
-        let size : length own ≡ w = padded-length w (name s q) short in
-        let k : ℕ = 5 * w + 8 - l in
-        let more : w ≤ k = omega (arith, R.short) in
-        ap (λ (z : List ℕ). same z (drop l f)) (padded-more w k (name s q) short more)
-        ∙ same-split own (replicate (k - w) 0) (drop l f)
-        ∙ rw (size, begins-same own (drop l f) (omega (arith, size, in-name, length-drop l f)), size, drop-drop w l f)
-        (rw (same-zeros (k - w) (drop (l + w) f) (omega (arith, in-name, R.long, length-drop (l + w) f)))
-        (ap (λ (z : Bool). z && is_blank (drop (l + w) f)) (sym (b-is ∙ ap (λ (z : List ℕ). same z (take w (drop l f))) (element-field s R.naming R.definition q R.element)))))
+    module _ {b : Bool} (b-is : b ≡ same (field_at s.width s.bytes (q + 1)) (field_at s.width f l)) where
+      split : ends_with s f q l ≡ b && is_blank (drop (l + s.width) f)
+      unfolding ends_with field_at is_blank flat_width
+      split =
+          let w = s.width in
+          let own : List ℕ = padded w (name s q) in
+          let short = name-short s q in
+          let size : length own ≡ w = padded-length w (name s q) short in
+          let k : ℕ = 5 * w + 8 - l in
+          let more : w ≤ k = omega (arith, R.short) in
+          ap (λ (z : List ℕ). same z (drop l f)) (padded-more w k (name s q) short more)
+          ∙ same-split own (replicate (k - w) 0) (drop l f)
+          ∙ rw (size, begins-same own (drop l f) (omega (arith, size, in-name, length-drop l f)), size, drop-drop w l f)
+          (rw (same-zeros (k - w) (drop (l + w) f) (omega (arith, in-name, long, length-drop (l + w) f)))
+          (ap (λ (z : Bool). z && is_blank (drop (l + w) f)) (sym (b-is ∙ ap (λ (z : List ℕ). same z (take w (drop l f))) (element-field s N R.definition q R.element)))))
 
-    pub other_name : b ≡ false → false ≡ ends_with s f q l
-    other_name e = sym (split ∙ rw e)
+      pub other_name : b ≡ false → false ≡ ends_with s f q l
+      other_name e = sym (split ∙ rw e)
 
-    pub own_name : b ≡ true → {r : Bool} → r ≡ is_blank (take (length f - (l + s.width)) (drop (l + s.width) f)) → r ≡ ends_with s f q l
-    own_name e h =
-        h
-        ∙ ap is_blank (take_all (length f - (l + s.width)) (drop (l + s.width) f) (omega (arith, length-drop (l + s.width) f)))
-        ∙ sym (split ∙ rw e)
+      pub own_name : b ≡ true → {r : Bool} → r ≡ is_blank (take (length f - (l + s.width)) (drop (l + s.width) f)) → r ≡ ends_with s f q l
+      own_name e h =
+          h
+          ∙ ap is_blank (take_all (length f - (l + s.width)) (drop (l + s.width) f) (omega (arith, length-drop (l + s.width) f)))
+          ∙ sym (split ∙ rw e)
 
 -- ---- the element of number e
-module _ {s : Recipe} {t inst el : List ℕ} {insts elems : ℕ} (C : Composed s t inst el insts elems) {f fits : List ℕ} (R : SearchRequires s f fits) {e : ℕ} (low : e < length (tree_elements s)) where
+module _ {s : Recipe} {t inst el : List ℕ} {insts elems : ℕ} (C : Composed s t inst el insts elems) {f fits : List ℕ} (F : PrefixFits s f fits) {e : ℕ} (low : e < length (tree_elements s)) where
   h₇ : fault₇ s ≡ None
   h₇ = C.targeted.planted.row₇
 
@@ -102,8 +106,8 @@ module _ {s : Recipe} {t inst el : List ℕ} {insts elems : ℕ} (C : Composed s
   gone-is : not (eqb (get_or el (5 * e + 2) 0) 0) ≡ is_gone s x
   gone-is =
       by_cases (eqb (get_or el (5 * e + 2) 0) 0)
-      (λ b. rw (b, survives-at C numbered (eqb-true (get_or el (5 * e + 2) 0) 0 b)))
-      (λ b. rw (b, gone_at C numbered (eqb-false (get_or el (5 * e + 2) 0) 0 b)))
+      (λ b. rw (b, survives-at (fated C) numbered (eqb-true (get_or el (5 * e + 2) 0) 0 b)))
+      (λ b. rw (b, gone_at (fated C) numbered (eqb-false (get_or el (5 * e + 2) 0) 0 b)))
 
   module _ {g : Bool} (g-is : g ≡ not (eqb (get_or el (5 * e + 2) 0) 0)) where
     pub gone-origin : g ≡ true → false ≡ is_origin s f x
@@ -118,8 +122,8 @@ module _ {s : Recipe} {t inst el : List ℕ} {insts elems : ℕ} (C : Composed s
     inst-low : i < length (instances s)
     inst-low = instance-low h₇ C.elements e low i-is
 
-    pub fit-inside : i < length fits
-    fit-inside = omega (arith, inst-low, R.fits.counted)
+    pub fit-inside : i + 0 < length fits
+    fit-inside = omega (arith, inst-low, F.counted)
 
     flat-name : flat_name s x ≡ prefixes_of s i ++ name s x.place
     unfolding flat_name prefixes_of
@@ -131,9 +135,9 @@ module _ {s : Recipe} {t inst el : List ℕ} {insts elems : ℕ} (C : Composed s
         ap (λ (n : List ℕ). same n f) (ap (padded (flat_width s.width)) flat-name ∙ padded-behind (flat_width s.width) (prefixes_of s i) (name s x.place))
         ∙ same-split (prefixes_of s i) (padded (flat_width s.width - length (prefixes_of s i)) (name s x.place)) f
 
-    module _ (o : Option ℕ) (o-is : fit_cell o ≡ get_or fits i 0) where
+    module _ (o : Option ℕ) (o-is : o ≡ next_of (get_or fits (i + 0) 0)) where
       fit_is : o ≡ fit_of s f i
-      fit_is = fit-same o (fit_of s f i) (o-is ∙ R.fits.fits i inst-low)
+      fit_is = fit-read F i inst-low o-is
 
       pub unfit-origin : {g : Bool} → g ≡ not (eqb (get_or el (5 * e + 2) 0) 0) → g ≡ false → o ≡ None → false ≡ is_origin s f x
       unfit-origin g-is present h = sym (alive g-is present ∙ named ∙ rw (fit_none s f i (sym h ∙ fit_is)))
@@ -145,10 +149,8 @@ module _ {s : Recipe} {t inst el : List ℕ} {insts elems : ℕ} (C : Composed s
         place_is : q ≡ x.place
         place_is = record_is h₇ C.elements e low q-is
 
-        pub name-requires : NameRequires s q f l
+        pub name-requires : NameRequires s q l
         name-requires = record {
-          naming = naming C.targeted.planted;
-          long = R.long;
           definition = definition_at s x.path;
           element = rw place_is (in_tree s x x-tree).1;
           short = rw fit-there.1 (prefixes-short s (naming C.targeted.planted) i inst-low);

@@ -4,5 +4,5 @@ pub mod Both
 pub mod Walks
 pub mod Answers
 pub mod Finding
-pub mod Fits
+pub mod Fitting
 pub mod Paths

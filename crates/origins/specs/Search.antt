@@ -5,10 +5,11 @@ use Rattle.names.specs.Lists.{In, begins, same, padded}
 use Rattle.flat_table.specs.Table.{flat_width}
 use Rattle.recipe.specs.Records.{Recipe, name}
 use Rattle.recipe.specs.Definitions.{elements, holder, submodels}
+use Rattle.tree.specs.Steps.{cell_of}
 use Rattle.tree.specs.Tree.{Node, instances}
 use Rattle.marks.specs.Marks.{is_gone}
 use Rattle.flat_names.specs.Prefixes.{prefix}
-use Rattle.flat_names.specs.Rows.{Naming, prefixes_of, row_width}
+use Rattle.flat_names.specs.Rows.{prefixes_of, row_width}
 use Rattle.origins.specs.Origins.{is_named}
 
 -- where the prefix of the submodel m ends in f, if it stands there from l on
@@ -19,15 +20,10 @@ prefix_end s f m l = cond (begins (prefix s m) (drop l f)) (Some (l + length (pr
 unfoldable pub fit_of : Recipe → List ℕ → ℕ → Option ℕ
 fit_of s f i = cond (begins (prefixes_of s i) f) (Some (length (prefixes_of s i))) None
 
--- what the table has of it: one more, 0 for none
-abbrev pub fit_cell : Option ℕ → ℕ
-fit_cell None = 0
-fit_cell (Some l) = l + 1
-
--- the table has that of the first n instances
+-- the table has that of the first n instances, as one more, 0 for none
 pub record FitsTo (s : Recipe) (f fit : List ℕ) (n : ℕ) : Type 0 where
   pub counted : length (instances s) ≤ length fit
-  pub fits : (i : ℕ) → i < n → get_or fit i 0 ≡ fit_cell (fit_of s f i)
+  pub fits : (i : ℕ) → i < n → get_or fit i 0 ≡ cell_of (fit_of s f i)
 
 -- and of all
 abbrev pub PrefixFits : Recipe → List ℕ → List ℕ → Type 0
@@ -41,34 +37,20 @@ ends_with s f q l = same (padded (flat_width s.width - l) (name s q)) (drop l f)
 unfoldable pub is_origin : Recipe → List ℕ → Node → Bool
 is_origin s f x = not (is_gone s x) && is_named s f x
 
--- ---- what the steps of the search require; f has the length of a flat name's field
+-- ---- what the steps of the search require, beside that f has the length of a flat name's field
 -- a submodel, whose prefix has room in f from l on
-pub record PrefixRequires (s : Recipe) (m : ℕ) (f : List ℕ) (l : ℕ) : Type 0 where
+pub record PrefixRequires (s : Recipe) (m l : ℕ) : Type 0 where
   pub submodel : In m (submodels s (holder s m))
-  pub long : length f ≡ flat_width s.width
   pub room : l + length (prefix s m) ≤ row_width s.width
 
 -- instance i behind main, and the fits of those before it
 pub record BehindRequires (s : Recipe) (i : ℕ) (f fit : List ℕ) : Type 0 where
-  pub long : length f ≡ flat_width s.width
   pub fits : FitsTo s f fit i
   pub above : 0 < i
   pub low : i < length (instances s)
 
--- a place for each of the n instances
-pub record FitRequires (s : Recipe) (n : ℕ) (f fit : List ℕ) : Type 0 where
-  pub long : length f ≡ flat_width s.width
-  pub room : n ≤ length fit
-
 -- an element, whose name has room in f from l on
-pub record NameRequires (s : Recipe) (q : ℕ) (f : List ℕ) (l : ℕ) : Type 0 where
-  pub naming : Naming s
-  pub long : length f ≡ flat_width s.width
+pub record NameRequires (s : Recipe) (q l : ℕ) : Type 0 where
   pub definition : ℕ
   pub element : In q (elements s definition)
   pub short : l ≤ row_width s.width
-
--- the instances whose prefixes fit
-pub record SearchRequires (s : Recipe) (f fit : List ℕ) : Type 0 where
-  pub long : length f ≡ flat_width s.width
-  pub fits : PrefixFits s f fit

@@ -2,26 +2,26 @@
 // Public call, which requires nothing: bandrolt_walk_back, exported to C by origins_c.
 #![tactic(auto)]
 
-ghost use Rattle.std.specs.Prelude.{◌≡◌, [], ◌<◌, length, get_or, set, option_map};
+ghost use Rattle.std.specs.Prelude.{◌≡◌, [], ◌<◌, ◌≤◌, length, get_or, option_map};
 ghost use Rattle.names.specs.Judging.{row_number};
 ghost use Rattle.names.specs.Lists.{padded};
+ghost use Rattle.flat_table.specs.Table.{flat_width};
 ghost use Rattle.recipe.specs.Records.{recipe};
 ghost use Rattle.tree.specs.Numbers.{number};
 ghost use Rattle.tree.specs.Tree.{instances, most_depth, tree_elements};
 ghost use Rattle.composer.specs.Verdicts.{recipe_of};
 ghost use Rattle.composer.specs.Writing.{element_at};
 ghost use Rattle.origins.specs.Origins.{answered, origin_of, walked_to, walk_refused, walk_back};
-ghost use Rattle.origins.specs.Search.{prefix_end, fit_of, fit_cell, PrefixFits, ends_with, is_origin};
-ghost use Rattle.origins.specs.Search.{PrefixRequires, BehindRequires, FitRequires, NameRequires, SearchRequires};
+ghost use Rattle.origins.specs.Search.{prefix_end, fit_of, PrefixFits, ends_with, is_origin};
+ghost use Rattle.origins.specs.Search.{PrefixRequires, BehindRequires, NameRequires};
 
-use compose::{Composition, Rooms};
+use compose::{Arrays, Composition};
 use elements::{INSTANCE, RECORD};
-use flat_names::number_at;
 use names::{Reason, Refusal, field_at};
 use recipe::Source;
 use shadow::cell;
 use targets::Tree;
-use tree::{AROUND, DEPTH, SUBMODEL_RECORD};
+use tree::{AROUND, DEPTH, SUBMODEL_RECORD, numbered, set_numbered};
 
 // What walking back answers: 0, or the number and place of the refusal; how many submodels the element lies in, the offsets of their records
 // from main downward with zeros behind them, and the offset of the element's record.
@@ -35,106 +35,115 @@ pub struct Origin {
     pub element: u64,
 }
 
-// How many bytes the prefixes of instance i have, if the name begins with them: its cell has one more, 0 for none.
-fn fit_at(fit: &[u16], i: usize) -> Option<usize>
-    requires { i < length fit.now }
-    ensures { fit_cell result ≡ get_or fit.now i 0 }
-{
-    number_at(fit, i).checked_sub(1)
+// A name as long as the field of a flat name, which is sought among the survivors of what composing leaves.
+#[derive(Clone, Copy)]
+struct Sought<'a> {
+    composition: &'a Composition<'a>,
+    name: &'a [u8],
+    ghost long: { length name.now ≡ flat_width composition.now.tree.source.now.width },
 }
 
-// Keeps that in the cell of instance i.
-fn set_fit(fit: &mut [u16], i: usize, end: Option<usize>)
-    requires { (i < length fit.old) × (fit_cell end < 65536) }
-    ensures { fit.new ≡ set fit.old i (fit_cell end) }
-{
-    fit[i] = match end {
-        None => 0,
-        Some(l) => (l + 1) as u16,
-    };
+// The same, with the cells of the instances filled.
+#[derive(Clone, Copy)]
+struct Fits<'a> {
+    sought: Sought<'a>,
+    cells: &'a [u16],
+    ghost fits: { PrefixFits (recipe sought.composition.now.tree.source.now) sought.name.now cells.now },
 }
 
-// Where the prefix of the submodel m ends in the name, if it stands there from l on. Its underscores are asked for only behind its name.
-fn prefix_end(tree: &Tree, m: usize, name: &[u8], l: usize) -> Option<usize>
-    requires { PrefixRequires (recipe tree.now.source.now) m name.now l }
-    ensures { result ≡ prefix_end (recipe tree.now.source.now) name.now m l }
-{
-    let s = tree.source;
-    let n = flat_names::name_length(s, m);
-    if !names::is_same(field_at(s.bytes, m + 1, n), field_at(name, l, n)) {
-        return None;
+impl<'a> Sought<'a> {
+    // Where the prefix of the submodel m ends in the name, if it stands there from l on. Its underscores are asked for only behind its name.
+    fn prefix_end(&self, m: usize, l: usize) -> Option<usize>
+        requires { PrefixRequires (recipe self.now.composition.now.tree.source.now) m l }
+        ensures { result ≡ prefix_end (recipe self.now.composition.now.tree.source.now) self.now.name.now m l }
+    {
+        let c = self.composition;
+        let s = c.tree.source;
+        let n = flat_names::name_length(s, m);
+        if !names::is_same(field_at(s.bytes, m + 1, n), field_at(self.name, l, n)) {
+            return None;
+        }
+        let k = flat_names::count_underscores(field_at(self.name, l + n, s.width));
+        let u = flat_names::fewest_underscores(s, c.tree.shadow, m);
+        if k < u {
+            return None;
+        }
+        Some(l + (n + u as usize))
     }
-    let k = flat_names::count_underscores(name, l + n, s.width);
-    let u = flat_names::fewest_underscores(s, tree.shadow, m);
-    if k < u {
-        return None;
+
+    // How many bytes the prefixes of instance i have, if the name begins with them: those of the instance around it, and that of its submodel.
+    fn fit_behind(&self, i: usize, cells: &[u16]) -> Option<usize>
+        requires { BehindRequires (recipe self.now.composition.now.tree.source.now) i self.now.name.now cells.now }
+        ensures { result ≡ fit_of (recipe self.now.composition.now.tree.source.now) self.now.name.now i }
+    {
+        let c = self.composition;
+        let inst = c.tree.instances;
+        let m = cell(inst, 6 * i, SUBMODEL_RECORD);
+        let u = cell(inst, 6 * i, AROUND);
+        let l = numbered(cells, u, 0)?;
+        self.prefix_end(m, l)
     }
-    Some(l + (n + u as usize))
-}
 
-// How many bytes the prefixes of instance i have, if the name begins with them: those of the instance around it, and that of its submodel.
-fn fit_behind(tree: &Tree, i: usize, name: &[u8], fit: &[u16]) -> Option<usize>
-    requires { BehindRequires (recipe tree.now.source.now) i name.now fit.now }
-    ensures { result ≡ fit_of (recipe tree.now.source.now) name.now i }
-{
-    let m = cell(tree.instances, 6 * i, SUBMODEL_RECORD);
-    let u = cell(tree.instances, 6 * i, AROUND);
-    let l = fit_at(fit, u)?;
-    prefix_end(tree, m, name, l)
-}
+    // Fills the cells of the instances, one each: one more than how many bytes its prefixes have, or 0. Main has no prefix.
+    fn fit_prefixes(&self, cells: &mut [u16])
+        requires { self.now.composition.now.size.insts ≤ length cells.old }
+        ensures { PrefixFits (recipe self.now.composition.now.tree.source.now) self.now.name.now cells.new }
+    {
+        let c = self.composition;
+        set_numbered(cells, 0, 0, Some(0));
+        for i in 1..c.size.insts {
+            let end = self.fit_behind(i, cells);
+            set_numbered(cells, i, 0, end);
+        }
+    }
 
-// Fills the cells of the instances. Main has no prefix.
-fn fit_prefixes(tree: &Tree, name: &[u8], fit: &mut [u16])
-    requires { FitRequires (recipe tree.now.source.now) tree.now.size.insts name.now fit.old }
-    ensures { PrefixFits (recipe tree.now.source.now) name.now fit.new }
-{
-    set_fit(fit, 0, Some(0));
-    for i in 1..tree.size.insts {
-        let end = fit_behind(tree, i, name, fit);
-        set_fit(fit, i, end);
+    // Whether the name of the element q, with zeros behind it, is all of the name from l on.
+    fn ends_with(&self, q: usize, l: usize) -> bool
+        requires { NameRequires (recipe self.now.composition.now.tree.source.now) q l }
+        ensures { result ≡ ends_with (recipe self.now.composition.now.tree.source.now) self.now.name.now q l }
+    {
+        let c = self.composition;
+        let s = c.tree.source;
+        let name = self.name;
+        if !names::is_same(
+            field_at(s.bytes, q + 1, s.width),
+            field_at(name, l, s.width),
+        ) {
+            return false;
+        }
+        names::is_blank(&name[l + s.width..])
     }
 }
 
-// Whether the name of the element q, with zeros behind it, is all of the name from l on.
-fn ends_with(s: &Source, q: usize, name: &[u8], l: usize) -> bool
-    requires { NameRequires (recipe s.now) q name.now l }
-    ensures { result ≡ ends_with (recipe s.now) name.now q l }
-{
-    if !names::is_same(
-        field_at(s.bytes, q + 1, s.width),
-        field_at(name, l, s.width),
-    ) {
-        return false;
+impl<'a> Fits<'a> {
+    // Whether the element of number e survives and has this name.
+    fn is_origin(&self, e: usize) -> bool
+        requires { e < length (tree_elements (recipe self.now.sought.composition.now.tree.source.now)) }
+        ensures { let s = recipe self.now.sought.composition.now.tree.source.now in result ≡ is_origin s self.now.sought.name.now (element_at s e) }
+    {
+        let c = self.sought.composition;
+        if elements::is_gone(c.elements, e) {
+            return false;
+        }
+        let i = cell(c.elements, 5 * e, INSTANCE);
+        let Some(l) = numbered(self.cells, i, 0) else {
+            return false;
+        };
+        let q = cell(c.elements, 5 * e, RECORD);
+        self.sought.ends_with(q, l)
     }
-    names::is_blank(&name[l + s.width..])
-}
 
-// Whether the element of number e survives and has this name.
-fn is_origin(c: &Composition, e: usize, name: &[u8], fit: &[u16]) -> bool
-    requires { let s = recipe c.now.tree.source.now in SearchRequires s name.now fit.now × (e < length (tree_elements s)) }
-    ensures { let s = recipe c.now.tree.source.now in result ≡ is_origin s name.now (element_at s e) }
-{
-    if elements::is_gone(c.elements, e) {
-        return false;
+    // The number of the survivor that has this name.
+    fn find_origin(&self) -> Option<usize>
+        ensures { let s = recipe self.now.sought.composition.now.tree.source.now in result ≡ option_map (number s) (origin_of s self.now.sought.name.now) }
+    {
+        let c = self.sought.composition;
+        (0..c.size.elems).find(
+            |&e|
+                requires { e < length (tree_elements (recipe self.now.sought.composition.now.tree.source.now)) }
+            { self.is_origin(e) },
+        )
     }
-    let i = cell(c.elements, 5 * e, INSTANCE);
-    let Some(l) = fit_at(fit, i) else {
-        return false;
-    };
-    let q = cell(c.elements, 5 * e, RECORD);
-    ends_with(c.tree.source, q, name, l)
-}
-
-// The number of the survivor that has this name.
-fn find_origin(c: &Composition, name: &[u8], fit: &[u16]) -> Option<usize>
-    requires { SearchRequires (recipe c.now.tree.source.now) name.now fit.now }
-    ensures { let s = recipe c.now.tree.source.now in result ≡ option_map (number s) (origin_of s name.now) }
-{
-    (0..c.tree.size.elems).find(
-        |&e|
-            requires { let s = recipe c.now.tree.source.now in SearchRequires s name.now fit.now × (e < length (tree_elements s)) }
-        { is_origin(c, e, name, fit) },
-    )
 }
 
 // The submodel records from main downward to instance i, and zeros behind them.
@@ -193,9 +202,17 @@ fn walk_composed(c: &Composition, name: &[u8]) -> Option<Origin>
     if name.len() != f {
         return None;
     }
-    let mut fit = [0u16; flat_names::PREFIX_ROWS];
-    fit_prefixes(&c.tree, name, &mut fit);
-    let e = find_origin(c, name, &fit)?;
+    let sought = Sought {
+        composition: c,
+        name,
+    };
+    let mut cells = [0u16; flat_names::PREFIX_ROWS];
+    sought.fit_prefixes(&mut cells);
+    let fits = Fits {
+        sought,
+        cells: &cells,
+    };
+    let e = fits.find_origin()?;
     Some(origin_at(c, e))
 }
 
@@ -203,9 +220,9 @@ fn walk_composed(c: &Composition, name: &[u8]) -> Option<Origin>
 fn walk_back(recipe: &[u8], name: &[u8]) -> Result<Origin, Refusal>
     ensures { answered result ≡ walk_back (recipe_of recipe.now) name.now }
 {
-    let mut rooms = Rooms::new();
+    let mut arrays = Arrays::new();
     let s = composer::source(recipe);
-    let c = compose::compose(&s, &mut rooms)?;
+    let c = compose::compose(&s, arrays.rooms())?;
     let anew = composer::source(recipe);
     let unnamed = Refusal {
         reason: Reason::Unnamed,

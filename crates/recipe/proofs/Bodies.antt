@@ -1,16 +1,19 @@
 -- The table of the kinds, one by one: which kinds there are, and how the body of each reads.
 -- Assumes nothing.
+use Rattle.std.specs.Prelude.{Option, None, Some, is_some}
 use mathlib.Core.Path.{◌≡◌, refl, sym, ap, ◌∙◌}
 use mathlib.Core.Logic.{⊎_elim}
 use Prim.Native.Nat.{ℕ, zero, suc, ◌+◌, ◌≤◌}
 use native.Mathlib.Omega.{arith}
-use mathlib.Core.Bool.{Bool, true, false, not, ◌&&◌, ◌||◌, false≢true, and-true, and_self_left, and-false}
-use lib.Dec.{leb, eqb}
-use borrow.Author.Tests.{eqb-true, eqb-false, lt-leb}
+use mathlib.Core.Bool.{Bool, true, false, not, ◌&&◌, ◌||◌, false≢true, and-true, and_self_left}
+use lib.Dec.{eqb}
+use borrow.Author.Tests.{eqb-true, eqb-false}
 use Rattle.names.specs.Names.{is_name, is_name_or_blank, text}
-use Rattle.names.proofs.Tests.{or_cases, and_left}
+use Rattle.names.proofs.Tests.{by_cases, or_cases, and_left}
 use Rattle.flat_table.specs.Classes.{is_class}
-use Rattle.recipe.specs.Records.{Recipe, part_offset, submodel_part, is_known, record_length, deletion_kind, owned_kind, mark_kind, pointer_kind, kind, is_deletion, is_replacement, is_replaced_by, is_mark, is_port, field, byte, first_field, name, class, parent_field, reference_field, model_field, submodel_offset, submodel_field, way, target_field, time_field, extent_field}
+use Rattle.recipe.specs.declared.Kind.{Kind}
+use Rattle.recipe.specs.declared.Kind.TheVariants.{Model, Element, Port, Submodel, Deletion, Replacement, ReplacedBy, Factors}
+use Rattle.recipe.specs.Records.{Recipe, kind_byte, IsKind, part_offset, submodel_part, is_known, record_length, deletion_kind, owned_kind, mark_kind, pointer_kind, kind, is_deletion, is_replacement, is_replaced_by, is_mark, is_port, field, byte, first_field, name, class, parent_field, reference_field, model_field, submodel_offset, submodel_field, way, target_field, time_field, extent_field}
 use Rattle.recipe.specs.Reading.{ends_with_underscore, is_way, reads, reads_behind, is_form}
 
 -- ---- which kinds there are
@@ -29,19 +32,30 @@ by_kind P p₁ p₂ p₃ p₄ p₅ p₆ p₇ p₈ (suc (suc (suc (suc (suc (suc 
 by_kind P p₁ p₂ p₃ p₄ p₅ p₆ p₇ p₈ (suc (suc (suc (suc (suc (suc (suc (suc (suc k))))))))) h = absurd (false≢true h)
 
 -- they are 1 to 8
-pub known-range : (k : ℕ) → leb 1 k && leb k 8 ≡ is_known k
+kind-range : (k : ℕ) → is_known k ≡ true → (1 ≤ k) × (k ≤ 8)
+kind-range =
+    by_kind (λ k. (1 ≤ k) × (k ≤ 8))
+    (omega arith, omega arith) (omega arith, omega arith) (omega arith, omega arith) (omega arith, omega arith)
+    (omega arith, omega arith) (omega arith, omega arith) (omega arith, omega arith) (omega arith, omega arith)
+
+pub no-kind : (k : ℕ) → (1 ≤ k → k ≤ 8 → ⊥) → is_known k ≡ false
+no-kind k h = by_cases (is_known k) (λ e. let r = kind-range k e in absurd (h r.0 r.1)) (λ e. e)
+
+byte-known : (k : Kind) → is_known (kind_byte k) ≡ true
 unfolding is_known
-known-range zero = refl
-known-range (suc zero) = refl
-known-range (suc (suc zero)) = refl
-known-range (suc (suc (suc zero))) = refl
-known-range (suc (suc (suc (suc zero)))) = refl
-known-range (suc (suc (suc (suc (suc zero))))) = refl
-known-range (suc (suc (suc (suc (suc (suc zero)))))) = refl
-known-range (suc (suc (suc (suc (suc (suc (suc zero))))))) = refl
-known-range (suc (suc (suc (suc (suc (suc (suc (suc zero)))))))) = refl
-known-range (suc (suc (suc (suc (suc (suc (suc (suc (suc k))))))))) =
-    rw (lt-leb (suc (suc (suc (suc (suc (suc (suc (suc (suc k))))))))) 8 (omega arith)) (and-false (leb 1 (suc (suc (suc (suc (suc (suc (suc (suc (suc k)))))))))))
+byte-known Model = refl
+byte-known Element = refl
+byte-known Port = refl
+byte-known Submodel = refl
+byte-known Deletion = refl
+byte-known Replacement = refl
+byte-known ReplacedBy = refl
+byte-known Factors = refl
+
+-- a byte is known if a kind is read from it
+pub known-some : (b : ℕ) (o : Option Kind) → IsKind b o → is_some o ≡ is_known b
+known-some b None h = sym h
+known-some b (Some k) h = sym (ap is_known (sym h) ∙ byte-known k)
 
 -- what holds of 5, 6 and 7 holds of every mark's kind
 pub by-mark : (P : ℕ → Type 0) → P 5 → P 6 → P 7 → (k : ℕ) → mark_kind k ≡ true → P k

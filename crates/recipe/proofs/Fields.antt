@@ -1,30 +1,30 @@
 -- What the record at a place reads as, field by field: one law for each way through its reader.
 -- Assumes nothing.
-use Rattle.std.specs.Prelude.{None, Some}
+use Rattle.std.specs.Prelude.{None, Option, Some}
 use mathlib.Core.Path.{◌≡◌, refl, sym, ap, ◌∙◌}
 use Prim.Native.Nat.{ℕ, zero, suc, ◌+◌, ◌-◌, ◌*◌, ◌≤◌, ◌<◌}
 use native.Mathlib.Omega.{arith}
-use mathlib.Core.Bool.{true, false, cond, not, ◌&&◌, true≢false}
+use mathlib.Core.Bool.{true, false, cond, not, ◌&&◌}
 use mathlib.Core.List.{List, [], ◌∷◌}
 use lib.ListN.{length, get_or, take, drop, length-take}
 use lib.Seq.{get_or-take, get_or-drop}
-use borrow.Author.Tests.{eq-eqb, ne_eqb, eqb-true, eqb-false, le-leb, lt-leb}
+use borrow.Author.Tests.{eq-eqb, ne_eqb}
 use Rattle.names.specs.Lists.{last_or, first}
-use Rattle.names.specs.Names.{text, is_name, is_blank, is_name_or_blank, field_of, field_at, non_zero, underscore}
-use Rattle.names.specs.declared.Field.TheVariants.{Name, Blank, Neither}
-use Rattle.names.proofs.Tests.{by_cases, or_left}
+use Rattle.names.specs.Names.{text, is_name, is_name_or_blank, field_of, field_at, non_zero, underscore}
+use Rattle.names.specs.declared.Field.TheVariants.{Name}
+use Rattle.names.proofs.Tests.{not-both, by_cases, or_left}
 use Rattle.names.proofs.Lists.{while-length, take_while}
 use Rattle.names.proofs.Names.{is_name_lem, some-character, name-characters}
 use Rattle.flat_table.specs.Classes.{is_class}
-use Rattle.recipe.specs.Records.{Recipe, places, part_offset, submodel_part, port_kind, mark_kind, pointer_kind, deletion_kind, replaced_by_kind, is_mark, is_replaced_by, record_length, kind, next, is_readable, is_model, is_element, is_port, is_submodel, is_deletion, is_replacement, is_factors, field, byte, first_field, name, class, parent_field, reference_field, model_field, submodel_offset, submodel_field, way, target_field, time_field, extent_field}
+use Rattle.recipe.specs.Records.{Recipe, kind_byte, is_known, places, part_offset, submodel_part, port_kind, mark_kind, pointer_kind, is_replaced_by, record_length, kind, next, is_readable, is_model, is_element, is_port, is_submodel, is_deletion, is_replacement, is_factors, field, byte, first_field, name, class, parent_field, reference_field, model_field, submodel_offset, submodel_field, way, target_field, time_field, extent_field}
 use Rattle.recipe.specs.Reading.{ends_with_underscore, is_way, is_form, fault₃}
-use Rattle.recipe.specs.Fields.{way_of, target_reading, element_fields, port_fields, submodel_fields, mark_fields, mark_reading, factors_fields, record_of, reading_of, RecordAt, TargetAt, MarkAt}
+use Rattle.recipe.specs.Fields.{name_read, way_read, way_of, target_reading, element_fields, port_fields, submodel_fields, mark_fields, mark_reading, factors_fields, record_of, reading_of, RecordAt, TargetAt, MarkAt}
 use Rattle.recipe.specs.declared.Way.{Way}
-use Rattle.recipe.specs.declared.Way.TheVariants.{ByElement, ByPort}
+use Rattle.recipe.specs.declared.Kind.{Kind}
 use Rattle.recipe.specs.declared.Mark.{Mark}
 use Rattle.recipe.specs.declared.Record.{Record}
 use Rattle.recipe.specs.declared.Record.TheVariants.{Model, Element, Port, Submodel, Deletion, Replacement, ReplacedBy, Factors}
-use Rattle.recipe.proofs.Bodies.{by_kind, by-mark, by-pointer, model-form, element-form, port-form, submodel-form, mark-form, factors-form, mark-kind}
+use Rattle.recipe.proofs.Bodies.{by_kind, by-pointer, model-form, element-form, port-form, submodel-form, mark-form, factors-form, mark-kind}
 use Rattle.recipe.proofs.Reading.{readable-fits, known, next_more}
 
 -- ---- the last character of a name
@@ -35,30 +35,53 @@ last-at d (x ∷ []) (suc k) h = absurd (omega arith)
 last-at d (x ∷ y ∷ xs) zero h = absurd (omega arith)
 last-at d (x ∷ y ∷ xs) (suc k) h = last-at x (y ∷ xs) k (omega arith)
 
-pub name-long : (f : List ℕ) {n : ℕ} → Name n ≡ field_of f → n ≡ length (text f)
-unfolding field_of
-name-long f {n} e =
-    by_cases (is_name f)
-    (λ h. let k : Name n ≡ Name (length (text f)) = rw h at e in cc)
-    (λ h. by_cases (is_blank f) (λ b. let k : Name n ≡ Blank = rw (h, b) at e in let z : ◌≡◌ {A = ℕ} 0 1 = cc in absurd (omega arith))
-    (λ b. let k : Name n ≡ Neither = rw (h, b) at e in let z : ◌≡◌ {A = ℕ} 0 1 = cc in absurd (omega arith)))
+-- ---- a name field read
+module _ (f : List ℕ) where
+  pub name-given : {n : ℕ} → Name n ≡ field_of f → Some n ≡ name_read f
+  unfolding field_of name_read
+  name-given {n} e =
+      by_cases (is_name f)
+      (λ h. let k : Name n ≡ Name (length (text f)) = rw h at e in rw h cc)
+      (λ h. absurd (not-both (is_name_lem f e) h))
 
-pub name-some : (f : List ℕ) {n : ℕ} → Name n ≡ field_of f → 1 ≤ n
-name-some f {n} e = omega (arith, name-long f e, some-character (text f) (name-characters f (is_name_lem f e)))
+  pub name-none : is_name f ≡ false → None ≡ name_read f
+  unfolding name_read
+  name-none h = rw h
+
+  module _ {n : ℕ} (e : Some n ≡ name_read f) where
+    named : (is_name f ≡ true) × (n ≡ length (text f))
+    unfolding name_read
+    named =
+        by_cases (is_name f)
+        (λ h. let g : Some n ≡ Some (length (text f)) = rw h at e in (h, let z : n ≡ length (text f) = cc in z))
+        (λ h. let g : Some n ≡ None = rw h at e in let z : ◌≡◌ {A = ℕ} 0 1 = cc in absurd (omega arith))
+
+    pub is-named : is_name f ≡ true
+    is-named = named.0
+
+    name-some : 1 ≤ n
+    name-some = omega (arith, named.1, some-character (text f) (name-characters f named.0))
+
+  pub unnamed : None ≡ name_read f → is_name f ≡ false
+  unfolding name_read
+  unnamed e =
+      by_cases (is_name f)
+      (λ h. let g : None ≡ Some (length (text f)) = rw h at e in let z : ◌≡◌ {A = ℕ} 0 1 = cc in absurd (omega arith))
+      (λ h. h)
 
 module _ (s : Recipe) (p : ℕ) where
-  pub name-fits : {n : ℕ} (k : ℕ) → Name n ≡ field_of (field s p k) → n ≤ s.width
+  pub name-fits : {n : ℕ} (k : ℕ) → Some n ≡ name_read (field s p k) → n ≤ s.width
   unfolding field field_at text
   name-fits {n} k e =
       let f : List ℕ = take s.width (drop (p + 1 + k) s.bytes) in
-      omega (arith, name-long f e, while-length non_zero f, length-take s.width (drop (p + 1 + k) s.bytes))
+      omega (arith, (named f e).1, while-length non_zero f, length-take s.width (drop (p + 1 + k) s.bytes))
 
   -- the byte before the padding is the last character
-  pub last_byte : {n : ℕ} → Name n ≡ field_of (field s p 0) → last_or 0 (name s p) ≡ get_or s.bytes (p + n) 0
+  pub last_byte : {n : ℕ} → Some n ≡ name_read (field s p 0) → last_or 0 (name s p) ≡ get_or s.bytes (p + n) 0
   unfolding name first_field field field_at text
   last_byte {n} e =
       let f : List ℕ = take s.width (drop (p + 1 + 0) s.bytes) in
-      let l : n ≡ length (text f) = name-long f e in
+      let l : n ≡ length (text f) = (named f e).1 in
       let a : 1 ≤ n = name-some f e in
       let b : n ≤ s.width = name-fits 0 e in
       let c : n - 1 < n = omega arith in
@@ -70,9 +93,9 @@ module _ (s : Recipe) (p : ℕ) where
       ∙ (get_or-drop (p + 1 + 0) s.bytes (n - 1) 0 ∙ ap (λ (k : ℕ). get_or s.bytes k 0) d))))
 
   -- ---- the kind byte
-  pub of-kind : {k : ℕ} → get_or s.bytes p 0 ≡ k → kind s p ≡ k
+  pub of-kind : {k j : Kind} → kind_byte k ≡ get_or s.bytes p 0 → k ≡ j → kind s p ≡ kind_byte j
   unfolding kind
-  of-kind e = e
+  of-kind b e = sym b ∙ ap kind_byte e
 
   -- ---- a record that row 2 does not refuse has room for its fields
   module _ (e : is_readable s p ≡ true) where
@@ -102,20 +125,12 @@ module _ (s : Recipe) (p : ℕ) where
     unfolding next record_length
     at_8 k = record { kinded = k; room = let h : p + (1 + (s.width + (s.width + s.width))) ≤ length s.bytes = rw k at fits in omega arith }
 
-    pub mark-at : {k : ℕ} → kind s p ≡ k → mark_kind k ≡ true → MarkAt s p k
-    mark-at e m = record { kinded = e; marks = m; room = fits }
-
-    -- a record of kind 1 to 4, of kind 8 or a mark: there is no other
-    pub no_other : (kind s p ≡ 1 → ⊥) → (kind s p ≡ 2 → ⊥) → (kind s p ≡ 3 → ⊥) → (kind s p ≡ 4 → ⊥) → (kind s p ≡ 8 → ⊥) → mark_kind (kind s p) ≡ false → ⊥
-    unfolding is_readable
-    no_other n₁ n₂ n₃ n₄ n₈ m =
-        by_kind (λ k. kind s p ≡ k → ⊥) n₁ n₂ n₃ n₄ (λ k. true≢false (rw k at m)) (λ k. true≢false (rw k at m)) (λ k. true≢false (rw k at m)) n₈
-        (kind s p) (known s p e) refl
+    -- its kind byte is read as one
+    pub kinded : is_known (get_or s.bytes p 0) ≡ false → ⊥
+    unfolding kind
+    kinded u = not-both (known s p e) u
 
   -- ---- marks
-  pub mark-is : {k : ℕ} → MarkAt s p k → is_mark s p ≡ true
-  mark-is m = mark-kind s p ∙ (ap mark_kind m.kinded ∙ m.marks)
-
   -- submodel, way and target of a whole mark or port are in the recipe
   pub target_at : next s p ≤ length s.bytes → pointer_kind (kind s p) ≡ true → {o : ℕ} → o ≡ submodel_offset s p → TargetAt s p o
   unfolding submodel_offset next record_length
@@ -138,11 +153,11 @@ module _ (s : Recipe) (p : ℕ) where
           let r : o ≡ part_offset s.width j (submodel_part j) = rw k at e in
           omega arith
 
-  pub mark-target : {k o : ℕ} → MarkAt s p k → o ≡ part_offset s.width k (submodel_part k) → TargetAt s p o
+  pub mark-at : is_readable s p ≡ true → (k : ℕ) → mark_kind k ≡ true → kind s p ≡ k → MarkAt s p (part_offset s.width k (submodel_part k))
   unfolding submodel_offset
-  mark-target {k} {o} m e =
-      target_at m.room (ap pointer_kind m.kinded ∙ or_left (mark_kind k) (port_kind k) m.marks)
-      (e ∙ ap (λ (j : ℕ). part_offset s.width j (submodel_part j)) (sym m.kinded))
+  mark-at e k m h =
+      let t = target_at (readable-fits s p e) (ap pointer_kind h ∙ or_left (mark_kind k) (port_kind k) m) refl in
+      record { marks = mark-kind s p ∙ (ap mark_kind h ∙ m); begins = rw h; room = rw h at t.room }
 
   marked : {m : Mark} → Some m ≡ mark_reading s p → (is_form s p ≡ true) × (m ≡ mark_fields s p)
   unfolding mark_reading
@@ -158,47 +173,35 @@ module _ (s : Recipe) (p : ℕ) where
       (λ f. let g : None ≡ Some (mark_fields s p) = rw f at h in let z : ◌≡◌ {A = ℕ} 0 1 = cc in absurd (omega arith))
       (λ f. rw f)
 
-  pub deletion-read : deletion_kind (kind s p) ≡ true → {m : Mark} → Some m ≡ mark_reading s p → Some (Deletion m) ≡ reading_of s p
+  pub deletion-read : kind s p ≡ 5 → {m : Mark} → Some m ≡ mark_reading s p → Some (Deletion m) ≡ reading_of s p
   unfolding reading_of record_of is_model is_element is_port is_submodel is_deletion
-  deletion-read d h = let r = marked h in rw (r.0, eqb-true (kind s p) 5 d, r.1)
+  deletion-read k h = let r = marked h in rw (r.0, k, r.1)
 
-  pub replaced-by-read : replaced_by_kind (kind s p) ≡ true → {m : Mark} → Some m ≡ mark_reading s p → Some (ReplacedBy m) ≡ reading_of s p
-  unfolding reading_of record_of is_model is_element is_port is_submodel is_deletion is_replacement is_replaced_by
-  replaced-by-read b h = let r = marked h in rw (r.0, eqb-true (kind s p) 7 b, r.1)
-
-  pub replacement-read : mark_kind (kind s p) ≡ true → deletion_kind (kind s p) ≡ false → replaced_by_kind (kind s p) ≡ false
-      → {m : Mark} → Some m ≡ mark_reading s p → Some (Replacement m) ≡ reading_of s p
+  pub replacement-read : kind s p ≡ 6 → {m : Mark} → Some m ≡ mark_reading s p → Some (Replacement m) ≡ reading_of s p
   unfolding reading_of record_of is_model is_element is_port is_submodel is_deletion is_replacement
-  replacement-read k d b {m} h =
-      let r = marked h in
-      by-mark (λ j. kind s p ≡ j → Some (Replacement m) ≡ reading_of s p)
-      (λ j. absurd (eqb-false (kind s p) 5 d j))
-      (λ j. rw (r.0, j, r.1))
-      (λ j. absurd (eqb-false (kind s p) 7 b j))
-      (kind s p) k refl
+  replacement-read k h = let r = marked h in rw (r.0, k, r.1)
+
+  pub replaced-by-read : kind s p ≡ 7 → {m : Mark} → Some m ≡ mark_reading s p → Some (ReplacedBy m) ≡ reading_of s p
+  unfolding reading_of record_of is_model is_element is_port is_submodel is_deletion is_replacement is_replaced_by
+  replaced-by-read k h = let r = marked h in rw (r.0, k, r.1)
 
   -- ---- way and target
   module _ (k : ℕ) (begins : k ≡ submodel_offset s p) where
-    pub target-far : 1 < get_or s.bytes (p + 1 + (k + s.width)) 0 → None ≡ target_reading s p
-    unfolding target_reading is_way way byte
-    target-far h = rw (← begins, lt-leb (get_or s.bytes (p + 1 + (k + s.width)) 0) 1 h)
+    target_is : target_reading s p ≡ cond (is_name (field s p (k + s.width + 1))) (way_read (get_or s.bytes (p + 1 + (k + s.width)) 0) (p + 1 + (k + s.width + 1))) None
+    unfolding target_reading way_read way_of way byte target_field
+    target_is =
+        by_cases (is_way (get_or s.bytes (p + 1 + (k + s.width)) 0))
+        (λ w. rw (← begins, w))
+        (λ w. by_cases (is_name (field s p (k + s.width + 1))) (λ n. rw (← begins, w, n)) (λ n. rw (← begins, w, n)))
 
-    module _ (h : get_or s.bytes (p + 1 + (k + s.width)) 0 ≤ 1) where
-      pub target-nameless : is_name (field s p (k + s.width + 1)) ≡ false → None ≡ target_reading s p
-      unfolding target_reading is_way way byte target_field
-      target-nameless a = rw (← begins, le-leb (get_or s.bytes (p + 1 + (k + s.width)) 0) 1 h, a)
+    pub target-nameless : is_name (field s p (k + s.width + 1)) ≡ false → None ≡ target_reading s p
+    target-nameless n = sym (target_is ∙ rw n)
 
-      pub target-element : is_name (field s p (k + s.width + 1)) ≡ true → get_or s.bytes (p + 1 + (k + s.width)) 0 ≡ 0
-          → Some (ByElement (p + 1 + (k + s.width + 1))) ≡ target_reading s p
-      unfolding target_reading is_way way byte target_field way_of
-      target-element a z =
-          rw (← begins, le-leb (get_or s.bytes (p + 1 + (k + s.width)) 0) 1 h, a, eq-eqb (get_or s.bytes (p + 1 + (k + s.width)) 0) 0 z)
+    pub target-read : is_name (field s p (k + s.width + 1)) ≡ true → {o : Option Way} → o ≡ way_read (get_or s.bytes (p + 1 + (k + s.width)) 0) (p + 1 + (k + s.width + 1)) → o ≡ target_reading s p
+    target-read n h = h ∙ sym (target_is ∙ rw n)
 
-      pub target-port : is_name (field s p (k + s.width + 1)) ≡ true → (get_or s.bytes (p + 1 + (k + s.width)) 0 ≡ 0 → ⊥)
-          → Some (ByPort (p + 1 + (k + s.width + 1))) ≡ target_reading s p
-      unfolding target_reading is_way way byte target_field way_of
-      target-port a z =
-          rw (← begins, le-leb (get_or s.bytes (p + 1 + (k + s.width)) 0) 1 h, a, ne_eqb (get_or s.bytes (p + 1 + (k + s.width)) 0) 0 z)
+    pub target-far : None ≡ way_read (get_or s.bytes (p + 1 + (k + s.width)) 0) (p + 1 + (k + s.width + 1)) → None ≡ target_reading s p
+    target-far h = by_cases (is_name (field s p (k + s.width + 1))) (λ n. target-read n h) target-nameless
 
   target-named : {t : Way} → Some t ≡ target_reading s p → (is_way (way s p) && is_name (target_field s p) ≡ true) × (t ≡ way_of s p)
   unfolding target_reading
@@ -295,15 +298,15 @@ module _ (s : Recipe) (p : ℕ) where
     unfolding first_field
     submodel-nameless a = sym (submodel-reading ∙ rw (submodel-form s p k, a))
 
-    module _ {n : ℕ} (a : Name n ≡ field_of (field s p 0)) where
+    module _ {n : ℕ} (a : Some n ≡ name_read (field s p 0)) where
       pub submodel-underscore : get_or s.bytes (p + n) 0 ≡ 95 → None ≡ reading_of s p
       unfolding first_field ends_with_underscore underscore
-      submodel-underscore h = sym (submodel-reading ∙ rw (submodel-form s p k, is_name_lem (field s p 0) a, last_byte a, eq-eqb (get_or s.bytes (p + n) 0) 95 h))
+      submodel-underscore h = sym (submodel-reading ∙ rw (submodel-form s p k, is-named (field s p 0) a, last_byte a, eq-eqb (get_or s.bytes (p + n) 0) 95 h))
 
       module _ (h : get_or s.bytes (p + n) 0 ≡ 95 → ⊥) where
         submodel-model : is_form s p ≡ is_name (field s p s.width)
         unfolding first_field model_field ends_with_underscore underscore
-        submodel-model = rw (submodel-form s p k, is_name_lem (field s p 0) a, last_byte a, ne_eqb (get_or s.bytes (p + n) 0) 95 h)
+        submodel-model = rw (submodel-form s p k, is-named (field s p 0) a, last_byte a, ne_eqb (get_or s.bytes (p + n) 0) 95 h)
 
         pub submodel-modelless : is_name (field s p s.width) ≡ false → None ≡ reading_of s p
         submodel-modelless b = sym (submodel-reading ∙ rw (submodel-model ∙ b))
@@ -338,20 +341,20 @@ module _ (s : Recipe) (p : ℕ) where
         factors-read c = sym (factors-reading ∙ rw (factors-form s p k, a, b, c))
 
   -- 5 to 7
-  module _ (m : is_mark s p ≡ true) where
+  module _ {k : ℕ} (m : MarkAt s p k) where
     pub mark-nameless : is_name (field s p 0) ≡ false → None ≡ mark_reading s p
     unfolding mark_reading first_field
-    mark-nameless a = rw (mark-form s p m, a)
+    mark-nameless a = rw (mark-form s p m.marks, a)
 
-    module _ (k : ℕ) (begins : k ≡ submodel_offset s p) (a : is_name (field s p 0) ≡ true) where
+    module _ (a : is_name (field s p 0) ≡ true) where
       pub mark-submodelless : is_name (field s p k) ≡ false → None ≡ mark_reading s p
       unfolding mark_reading first_field submodel_field
-      mark-submodelless b = rw (mark-form s p m, a, ← begins, b)
+      mark-submodelless b = rw (mark-form s p m.marks, a, ← m.begins, b)
 
       module _ (b : is_name (field s p k) ≡ true) where
         mark-end : is_form s p ≡ is_way (way s p) && is_name (target_field s p)
         unfolding first_field submodel_field
-        mark-end = rw (mark-form s p m, a, ap (λ (o : ℕ). is_name (field s p o)) (sym begins) ∙ b)
+        mark-end = rw (mark-form s p m.marks, a, ap (λ (o : ℕ). is_name (field s p o)) (sym m.begins) ∙ b)
 
         pub mark-untargeted : None ≡ target_reading s p → None ≡ mark_reading s p
         unfolding mark_reading
@@ -359,7 +362,7 @@ module _ (s : Recipe) (p : ℕ) where
 
         pub mark-read : {t : Way} → Some t ≡ target_reading s p → Some (record { owner = p + 1; submodel = p + 1 + k; target = t }) ≡ mark_reading s p
         unfolding mark_reading mark_fields
-        mark-read {t} h = let r = target-named h in rw (mark-end ∙ r.0, r.1, ← begins)
+        mark-read {t} h = let r = target-named h in rw (mark-end ∙ r.0, r.1, ← m.begins)
 
 -- ---- what the answer says of the form
 module _ (s : Recipe) (p : ℕ) where

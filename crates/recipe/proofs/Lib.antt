@@ -9,3 +9,4 @@ pub mod Rows
 pub mod Spans
 pub mod Fields
 pub mod Steps
+pub mod Unread

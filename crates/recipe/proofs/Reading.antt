@@ -149,30 +149,6 @@ module _ (s : Recipe) where
       (λ e. not_none (sym (rw e at h)))
       (λ e. omega (arith, ltb-false (stop s) (length s.bytes) e, stop-within))
 
-  -- ---- what is left to read at p: enough tries, and the stop that they lead to
-  abbrev pub LeftToRead : ℕ → Type 0
-  LeftToRead p = (n : ℕ) × (length s.bytes ≤ p + n) × (stop s ≡ stop_from n s p)
-
-  pub left-start : LeftToRead 0
-  unfolding stop
-  left-start = (length s.bytes, omega arith, refl)
-
-  pub left-more : (p : ℕ) → is_readable s p ≡ true → LeftToRead p → LeftToRead (next s p)
-  unfolding stop_from
-  left-more p e l = go l.0 l.1 l.2
-    where
-      go : (n : ℕ) → length s.bytes ≤ p + n → stop s ≡ stop_from n s p → LeftToRead (next s p)
-      go zero h q = absurd (omega (arith, readable-fits p e, next_more p))
-      go (suc n) h q = (n, omega (arith, next_more p), rw (e, stop_from) at q)
-
-  pub left_end : (p : ℕ) → is_readable s p ≡ false → LeftToRead p → p ≡ stop s
-  unfolding stop_from
-  left_end p e l = sym (l.2 ∙ go l.0)
-    where
-      go : (n : ℕ) → stop_from n s p ≡ p
-      go zero = refl
-      go (suc n) = rw (e, stop_from)
-
   -- ---- the test, case by case
   pub unknown : (p : ℕ) → is_known (kind s p) ≡ false → false ≡ is_readable s p
   unfolding is_readable

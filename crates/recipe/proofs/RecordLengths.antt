@@ -4,12 +4,13 @@ use mathlib.Core.Path.{◌≡◌, refl}
 use Prim.Native.Nat.{ℕ, zero, suc, ◌+◌, ◌*◌, ◌≤◌, ◌<◌}
 use native.Mathlib.Omega.{arith}
 use native.Mathlib.Nat.{mul-le-mul, suc-mul, zero-mul}
+use mathlib.Core.Bool.{false, true≢false}
 use lib.Dec.{ltb}
 use borrow.Author.Tests.{ltb-true, ltb-false}
 use Rattle.names.proofs.Tests.{by_cases}
 use mathlib.Core.List.{List, [], ◌∷◌}
 use lib.ListN.{get_or-eq_default}
-use Rattle.recipe.specs.Records.{Part, a_name, a_submodel_name, a_name_or_blank, a_class, a_way, bodies, body_of, part_bytes, bytes_of, names_in, singles_in, record_length}
+use Rattle.recipe.specs.Records.{Part, a_name, a_submodel_name, a_name_or_blank, a_class, a_way, bodies, body_of, has_parts, is_known, part_bytes, bytes_of, names_in, singles_in, record_length}
 
 -- ---- by the parts
 one-part : (w : ℕ) (x : Part) (xs : List Part) → names_in (x ∷ xs) * w + singles_in (x ∷ xs) ≡ part_bytes w x + (names_in xs * w + singles_in xs)
@@ -48,41 +49,33 @@ by-nine P p₀ p₁ p₂ p₃ p₄ p₅ p₆ p₇ p₈ (suc (suc (suc (suc (suc 
 no_body : (k : ℕ) → 9 ≤ k → body_of k ≡ []
 no_body k h = get_or-eq_default bodies [] h
 
-pub names-three : (k : ℕ) → 1 ≤ k → k < 9 → (k ≡ 1 → ⊥) → (k ≡ 4 → ⊥) → (k ≡ 5 → ⊥) → 3 ≡ names_in (body_of k)
+names-three : (k : ℕ) → 1 ≤ k → k < 9 → (k ≡ 1 → ⊥) → (k ≡ 4 → ⊥) → (k ≡ 5 → ⊥) → 3 ≡ names_in (body_of k)
 names-three k a b p q r =
     by-nine (λ j. k ≡ j → 3 ≡ names_in (body_of j))
     (λ e. absurd (omega arith)) (λ e. absurd (p e)) (λ e. refl) (λ e. refl) (λ e. absurd (q e)) (λ e. absurd (r e)) (λ e. refl) (λ e. refl) (λ e. refl)
     k b refl
 
-pub names-two : (k : ℕ) → 4 ≤ k → k < 6 → 2 ≡ names_in (body_of k)
-names-two k a b =
-    by-nine (λ j. k ≡ j → 2 ≡ names_in (body_of j))
-    (λ e. absurd (omega arith)) (λ e. absurd (omega arith)) (λ e. absurd (omega arith)) (λ e. absurd (omega arith)) (λ e. refl) (λ e. refl)
-    (λ e. absurd (omega arith)) (λ e. absurd (omega arith)) (λ e. absurd (omega arith))
-    k (omega arith) refl
-
-pub singles-one : (k : ℕ) → 2 ≤ k → k < 8 → (k ≡ 4 → ⊥) → 1 ≡ singles_in (body_of k)
+singles-one : (k : ℕ) → 2 ≤ k → k < 8 → (k ≡ 4 → ⊥) → 1 ≡ singles_in (body_of k)
 singles-one k a b n =
     by-nine (λ j. k ≡ j → 1 ≡ singles_in (body_of j))
     (λ e. absurd (omega arith)) (λ e. absurd (omega arith)) (λ e. refl) (λ e. refl) (λ e. absurd (n e)) (λ e. refl) (λ e. refl) (λ e. refl) (λ e. absurd (omega arith))
     k (omega arith) refl
 
-pub singles-none : (k : ℕ) → (2 ≤ k → k < 8 → k ≡ 4) → 0 ≡ singles_in (body_of k)
-singles-none k h =
-    by_cases (ltb k 9)
-    (λ b.
-    by-nine (λ j. k ≡ j → 0 ≡ singles_in (body_of j))
-    (λ e. refl) (λ e. refl) (λ e. absurd (omega (arith, h (omega arith) (omega arith)))) (λ e. absurd (omega (arith, h (omega arith) (omega arith)))) (λ e. refl)
-    (λ e. absurd (omega (arith, h (omega arith) (omega arith)))) (λ e. absurd (omega (arith, h (omega arith) (omega arith)))) (λ e. absurd (omega (arith, h (omega arith) (omega arith)))) (λ e. refl)
-    k (ltb-true k 9 b) refl)
-    (λ b. rw (no_body k (ltb-false k 9 b)))
+-- where there is no kind there are no parts
+bodiless : (xs : List Part) → has_parts xs ≡ false → xs ≡ []
+bodiless [] h = refl
+bodiless (x ∷ xs) h = absurd (true≢false h)
 
-pub names-none : (k : ℕ) → k < 1 → 0 ≡ names_in (body_of k)
-names-none zero h = refl
-names-none (suc k) h = absurd (omega arith)
+module _ (k : ℕ) (h : is_known k ≡ false) where
+  partless : body_of k ≡ []
+  unfolding is_known
+  partless = bodiless (body_of k) h
 
-pub names-past : (k : ℕ) → 9 ≤ k → 0 ≡ names_in (body_of k)
-names-past k h = rw (no_body k h)
+  pub names-none : 0 ≡ names_in (body_of k)
+  names-none = rw partless
+
+  pub singles-none : 0 ≡ singles_in (body_of k)
+  singles-none = rw partless
 
 -- the kinds with three name fields and a byte: 2, 3, 6 and 7
 pub length_three : (w k : ℕ) → 1 ≤ k → k < 8 → (k ≡ 1 → ⊥) → (k ≡ 4 → ⊥) → (k ≡ 5 → ⊥) → 2 + 3 * w ≡ record_length w k

@@ -3,12 +3,11 @@
 use Rattle.std.specs.Prelude.{None, Some}
 use Prim.Native.Nat.{ℕ, ◌+◌, ◌≤◌, ◌<◌}
 use native.Mathlib.Omega.{arith}
-use mathlib.Core.Path.{◌≡◌, refl, sym, ap, ◌∙◌}
-use mathlib.Core.List.{List}
+use mathlib.Core.Path.{◌≡◌, sym, ap, ◌∙◌}
 use lib.ListN.{length, get_or}
 use Rattle.recipe.specs.declared.Records.{Records}
 use Rattle.recipe.specs.Records.{Recipe, recipe, record_length}
-use Rattle.recipe.specs.Steps.{StepFits, StepsTo}
+use Rattle.recipe.specs.Steps.{StepsTo}
 
 -- the iterator goes over the records of s
 pub record Over (s : Recipe) (a : Records) : Type 0 where

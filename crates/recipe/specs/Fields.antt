@@ -1,8 +1,8 @@
 -- What the record at a place reads as: the case of its kind, with the offsets of its fields. Row 3 refuses it where a field does not read.
 -- Assumes nothing.
-use Rattle.std.specs.Prelude.{◌≡◌, ℕ, ◌+◌, ◌≤◌, true, cond, ◌&&◌, length, eqb, None, Option, Some}
-use Rattle.names.specs.Names.{is_name}
-use Rattle.recipe.specs.Records.{Recipe, part_offset, kind, is_model, is_element, is_port, is_submodel, is_deletion, is_replacement, is_replaced_by, is_factors, mark_kind, next, class, submodel_offset, way, target_field}
+use Rattle.std.specs.Prelude.{◌≡◌, ℕ, ◌+◌, ◌≤◌, true, cond, ◌&&◌, List, length, eqb, None, Option, Some}
+use Rattle.names.specs.Names.{text, is_name}
+use Rattle.recipe.specs.Records.{Recipe, part_offset, kind, is_model, is_element, is_port, is_submodel, is_deletion, is_replacement, is_replaced_by, is_mark, is_factors, class, submodel_offset, way, target_field}
 use Rattle.recipe.specs.Reading.{is_way, is_form}
 use Rattle.recipe.specs.declared.Way.{Way}
 use Rattle.recipe.specs.declared.Way.TheVariants.{ByElement, ByPort}
@@ -14,6 +14,10 @@ use Rattle.recipe.specs.declared.FactorsFields.{FactorsFields}
 use Rattle.recipe.specs.declared.Record.{Record}
 use Rattle.recipe.specs.declared.Record.TheVariants.{Model, Element, Port, Submodel, Deletion, Replacement, ReplacedBy, Factors}
 
+-- a name field read, as the length of its name, or not
+unfoldable pub name_read : List ℕ → Option ℕ
+name_read f = cond (is_name f) (Some (length (text f))) None
+
 -- the offset in the recipe of the field that begins k bytes into the body of the record at p
 abbrev pub offset : ℕ → ℕ → ℕ
 offset p k = p + 1 + k
@@ -22,9 +26,17 @@ offset p k = p + 1 + k
 abbrev pub target_offset : Recipe → ℕ → ℕ
 target_offset s p = offset p (submodel_offset s p + s.width + 1)
 
--- "The way byte is 0 (target given by element name) or 1 (by port name)"
+-- "The way byte is 0 (target given by element name) or 1 (by port name)": the way of the byte b, to the target's name at the offset q
+abbrev pub way_to : ℕ → ℕ → Way
+way_to b q = cond (eqb b 0) (ByElement q) (ByPort q)
+
+-- the byte read, or not
+unfoldable pub way_read : ℕ → ℕ → Option Way
+way_read b q = cond (is_way b) (Some (way_to b q)) None
+
+-- the way of the port or mark at p
 unfoldable pub way_of : Recipe → ℕ → Way
-way_of s p = cond (eqb (way s p) 0) (ByElement (target_offset s p)) (ByPort (target_offset s p))
+way_of s p = way_to (way s p) (target_offset s p)
 
 -- "way, target" read, or not
 unfoldable pub target_reading : Recipe → ℕ → Option Way
@@ -83,8 +95,8 @@ pub record TargetAt (s : Recipe) (p k : ℕ) : Type 0 where
   pub begins : k ≡ submodel_offset s p
   pub room : p + 1 + (k + s.width + 1) + s.width ≤ length s.bytes
 
--- a whole mark of kind k
+-- a whole mark, whose submodel begins k bytes into its body
 pub record MarkAt (s : Recipe) (p k : ℕ) : Type 0 where
-  pub kinded : kind s p ≡ k
-  pub marks : mark_kind k ≡ true
-  pub room : next s p ≤ length s.bytes
+  pub marks : is_mark s p ≡ true
+  pub begins : k ≡ submodel_offset s p
+  pub room : p + 1 + (k + s.width + 1) + s.width ≤ length s.bytes

@@ -1,8 +1,10 @@
 -- 01's "Recipe records". A record is named by its place p, the offset of its kind byte. Names have any width: 01's is 12.
 -- Assumes nothing.
-use Rattle.std.specs.Prelude.{ℕ, zero, suc, ◌+◌, Bool, true, false, cond, ◌&&◌, ◌||◌, List, [], ◌∷◌, length, get_or, take, leb, ltb, eqb}
+use Rattle.std.specs.Prelude.{◌≡◌, Option, MatchOption, ℕ, zero, suc, ◌+◌, Bool, true, false, cond, ◌&&◌, ◌||◌, List, [], ◌∷◌, length, get_or, take, leb, ltb, eqb}
 use Rattle.names.specs.Names.{field_at, text}
 use Rattle.recipe.specs.declared.Source.{Source}
+use Rattle.recipe.specs.declared.Kind.{Kind}
+use Rattle.recipe.specs.declared.Kind.TheVariants.{Model, Element, Port, Submodel, Deletion, Replacement, ReplacedBy, Factors}
 
 -- "A recipe is a byte string"; "A name field is 12 bytes": the width of its name fields
 pub record Recipe : Type 0 where
@@ -100,6 +102,21 @@ has_parts (x ∷ xs) = true
 -- column "Kind": the kinds of the table
 unfoldable pub is_known : ℕ → Bool
 is_known k = has_parts (body_of k)
+
+-- its bytes, kind by kind
+abbrev pub kind_byte : Kind → ℕ
+kind_byte Model = 1
+kind_byte Element = 2
+kind_byte Port = 3
+kind_byte Submodel = 4
+kind_byte Deletion = 5
+kind_byte Replacement = 6
+kind_byte ReplacedBy = 7
+kind_byte Factors = 8
+
+-- the kind that a byte is read as: its own, or none of an unknown byte
+abbrev pub IsKind : ℕ → Option Kind → Type 0
+IsKind b o = MatchOption o (is_known b ≡ false) (λ k. kind_byte k ≡ b)
 
 -- "Each record is one kind byte and a body whose length the kind fixes": the bytes of a record of kind k
 unfoldable pub record_length : ℕ → ℕ → ℕ

@@ -1,13 +1,13 @@
 // Recipes: their records, and the refusals 1 to 3.
-// For the floors above: Source, a recipe as it is lent; Kind; length_fault, first_unreadable and first_unformed (rows 1 to 3), is_readable and read_record;
-// Records, the places of the records one after the other; what is asked of a kind byte k: record_length, length_by_kind, is_port, is_deletion, is_replaced_by, is_owned, is_mark, is_pointer, submodel_offset; wide, of a number in a table.
+// For the floors above: Source, a recipe as it is lent, and its class_at; Kind and Way, and what a kind byte and a way byte are (Kind::of, Way::of); length_fault, first_unreadable and first_unformed (rows 1 to 3), is_readable and read_record;
+// Records, the places of the records one after the other; what is asked of a kind byte k: record_length, length_by_kind, is_port, is_deletion, is_replaced_by, is_owned, is_mark, is_pointer, submodel_offset; wide, of a number in a table; MOST_BYTES, of a recipe.
 #![tactic(auto)]
 
-ghost use Rattle.std.specs.Prelude.{◌≡◌, true, ℕ, ◌+◌, ◌*◌, ◌<◌, ◌≤◌, length};
-ghost use Rattle.names.specs.Names.{field_of};
-ghost use Rattle.recipe.specs.Records.{recipe, body_of, names_in, singles_in, is_known, record_length, port_kind, deletion_kind, replaced_by_kind, owned_kind, mark_kind, pointer_kind, submodel_part, part_offset, is_readable, stop, field};
+ghost use Rattle.std.specs.Prelude.{◌≡◌, true, ℕ, ◌+◌, ◌*◌, ◌<◌, ◌≤◌, length, get_or, is_some};
+ghost use Rattle.names.specs.Names.{is_name_or_blank};
+ghost use Rattle.recipe.specs.Records.{recipe, IsKind, body_of, names_in, singles_in, is_known, record_length, port_kind, deletion_kind, replaced_by_kind, owned_kind, mark_kind, pointer_kind, submodel_part, part_offset, is_readable, stop, field};
 ghost use Rattle.recipe.specs.Reading.{fault₁, fault₂, fault₃};
-ghost use Rattle.recipe.specs.Fields.{TargetAt, RecordAt, MarkAt, target_reading, mark_reading, reading_of};
+ghost use Rattle.recipe.specs.Fields.{TargetAt, RecordAt, MarkAt, name_read, target_reading, mark_reading, reading_of};
 
 use names::Field;
 
@@ -16,6 +16,16 @@ use names::Field;
 pub struct Source<'a> {
     pub bytes: &'a [u8],
     pub width: usize,
+}
+
+impl<'a> Source<'a> {
+    // The class byte of the element at e.
+    pub fn class_at(&self, e: usize) -> u8
+        requires { e + 1 + self.now.width < length self.now.bytes.now }
+        ensures { result ≡ get_or self.now.bytes.now (e + 1 + self.now.width) 0 }
+    {
+        self.bytes[e + 1 + self.width]
+    }
 }
 
 // The kinds of records, by their kind bytes.
@@ -31,11 +41,45 @@ pub enum Kind {
     Factors = 8,
 }
 
+impl Kind {
+    // The kind of a kind byte, if there is one.
+    pub fn of(byte: u8) -> Option<Kind>
+        ensures { IsKind byte result }
+    {
+        match byte {
+            1 => Some(Kind::Model),
+            2 => Some(Kind::Element),
+            3 => Some(Kind::Port),
+            4 => Some(Kind::Submodel),
+            5 => Some(Kind::Deletion),
+            6 => Some(Kind::Replacement),
+            7 => Some(Kind::ReplacedBy),
+            8 => Some(Kind::Factors),
+            _ => None,
+        }
+    }
+}
+
 // How a target is named: by element name or by port name, with the offset of that name in the recipe.
 #[derive(Clone, Copy)]
 pub enum Way {
     ByElement(usize),
     ByPort(usize),
+}
+
+impl Way {
+    ghost use Rattle.recipe.specs.Fields.{way_read};
+
+    // The way that a way byte b gives, to the target whose name is at `at`; none where b has no meaning.
+    pub fn of(b: u8, at: usize) -> Option<Way>
+        ensures { result ≡ way_read b at }
+    {
+        match b {
+            0 => Some(Way::ByElement(at)),
+            1 => Some(Way::ByPort(at)),
+            _ => None,
+        }
+    }
 }
 
 // The fields of an element: their offsets, and the class.
@@ -92,7 +136,7 @@ pub enum Record {
 }
 
 // The most bytes of a recipe.
-const MOST_BYTES: usize = 16384;
+pub const MOST_BYTES: usize = 16384;
 
 // A number of the tables, as a place or a count.
 pub fn wide(x: u16) -> usize
@@ -115,11 +159,12 @@ pub fn length_fault(s: &Source) -> Option<usize>
 fn name_fields(k: u8) -> usize
     ensures { (result ≡ names_in (body_of k)) × (result ≤ 3) }
 {
-    match k {
-        1 => 1,
-        4 | 5 => 2,
-        2 | 3 | 6 | 7 | 8 => 3,
-        _ => 0,
+    match Kind::of(k) {
+        Some(Kind::Model) => 1,
+        Some(Kind::Submodel | Kind::Deletion) => 2,
+        Some(Kind::Element | Kind::Port | Kind::Replacement | Kind::ReplacedBy | Kind::Factors) =>
+            3,
+        None => 0,
     }
 }
 
@@ -127,9 +172,11 @@ fn name_fields(k: u8) -> usize
 fn single_bytes(k: u8) -> usize
     ensures { (result ≡ singles_in (body_of k)) × (result ≤ 1) }
 {
-    match k {
-        2 | 3 | 5 | 6 | 7 => 1,
-        _ => 0,
+    match Kind::of(k) {
+        Some(Kind::Element | Kind::Port | Kind::Deletion | Kind::Replacement | Kind::ReplacedBy) =>
+            1,
+        Some(Kind::Model | Kind::Submodel | Kind::Factors) => 0,
+        None => 0,
     }
 }
 
@@ -143,7 +190,7 @@ pub fn record_length(k: u8, w: usize) -> usize
     1 + n * w + b
 }
 
-// The same, for a loop that goes over the same records again and again: there the jumps are foreseen, and a look-up would wait for each kind byte.
+// The same, for a loop that goes over the same records again and again: there the jumps are foreseen, and a look-up would wait for each kind byte. By numbers, since `Kind::of` costs an instruction more a record.
 pub fn length_by_kind(k: u8, w: usize) -> usize
     requires { w ≤ 65536 }
     ensures { result ≡ record_length w k }
@@ -162,7 +209,7 @@ pub fn length_by_kind(k: u8, w: usize) -> usize
 fn is_known(k: u8) -> bool
     ensures { result ≡ is_known k }
 {
-    (Kind::Model as u8 <= k) & (k <= Kind::Factors as u8)
+    Kind::of(k).is_some()
 }
 
 // A port.
@@ -278,34 +325,39 @@ impl<'a> Records<'a> {
     }
 }
 
-// Where the reading of a recipe stops: at its end, or at the first record that row 2 refuses.
-fn reading_stop(s: &Source) -> usize
-    requires { s.now.width ≤ 65536 }
-    ensures { result ≡ stop (recipe s.now) }
-{
-    for p in Records::of(s) {
-        if !is_readable(s, p) {
-            return p;
-        }
-    }
-    s.bytes.len()
-}
-
 // The first record that row 2 refuses.
 pub fn first_unreadable(s: &Source) -> Option<usize>
     requires { s.now.width ≤ 65536 }
     ensures { result ≡ fault₂ (recipe s.now) }
 {
-    let stop = reading_stop(s);
-    (stop < s.bytes.len()).then_some(stop)
+    Records::of(&*s).find(|p| !is_readable(&*s, *p))
 }
 
-// What the name field k bytes into the body of the record at p reads as.
-fn field_at(s: &Source, p: usize, k: usize) -> Field
+// The name field k bytes into the body of the record at p.
+fn field_at<'a>(s: &Source<'a>, p: usize, k: usize) -> &'a [u8]
     requires { p + 1 + k + s.now.width ≤ length s.now.bytes.now }
-    ensures { result ≡ field_of (field (recipe s.now) p k) }
+    ensures { result.now ≡ field (recipe s.now) p k }
 {
-    names::read_field(names::field_at(s.bytes, p + 1 + k, s.width))
+    names::field_at(s.bytes, p + 1 + k, s.width)
+}
+
+// The length of the name in that field, if it reads as one.
+fn name_at(s: &Source, p: usize, k: usize) -> Option<usize>
+    requires { p + 1 + k + s.now.width ≤ length s.now.bytes.now }
+    ensures { result ≡ name_read (field (recipe s.now) p k) }
+{
+    let Field::Name(n) = names::read_field(field_at(s, p, k)) else {
+        return None;
+    };
+    Some(n)
+}
+
+// Whether that field reads as a name or a blank, for `?`.
+fn optional_at(s: &Source, p: usize, k: usize) -> Option<()>
+    requires { p + 1 + k + s.now.width ≤ length s.now.bytes.now }
+    ensures { is_some result ≡ is_name_or_blank (field (recipe s.now) p k) }
+{
+    names::is_optional(field_at(s, p, k)).then_some(())
 }
 
 // The way and the target of the port or mark at p, whose submodel begins k bytes into its body.
@@ -313,27 +365,17 @@ fn read_target(s: &Source, p: usize, k: usize) -> Option<Way>
     requires { TargetAt (recipe s.now) p k }
     ensures { result ≡ target_reading (recipe s.now) p }
 {
-    let b = s.bytes[p + 1 + (k + s.width)];
-    if b > 1 {
-        return None;
-    }
-    let Field::Name(_) = field_at(s, p, k + s.width + 1) else {
-        return None;
-    };
     let at = p + 1 + (k + s.width + 1);
-    if b == 0 {
-        return Some(Way::ByElement(at));
-    }
-    Some(Way::ByPort(at))
+    let way = Way::of(s.bytes[p + 1 + (k + s.width)], at)?;
+    name_at(s, p, k + s.width + 1)?;
+    Some(way)
 }
 
 fn read_model(s: &Source, p: usize) -> Option<Record>
     requires { RecordAt (recipe s.now) p 1 (1 + s.now.width) }
     ensures { result ≡ reading_of (recipe s.now) p }
 {
-    let Field::Name(_) = field_at(s, p, 0) else {
-        return None;
-    };
+    name_at(s, p, 0)?;
     Some(Record::Model(p + 1))
 }
 
@@ -341,19 +383,13 @@ fn read_element(s: &Source, p: usize) -> Option<Record>
     requires { RecordAt (recipe s.now) p 2 (2 + 3 * s.now.width) }
     ensures { result ≡ reading_of (recipe s.now) p }
 {
-    let Field::Name(_) = field_at(s, p, 0) else {
-        return None;
-    };
-    let class = s.bytes[p + 1 + s.width];
+    name_at(s, p, 0)?;
+    let class = s.class_at(p);
     if !flat_table::is_class(class) {
         return None;
     }
-    let (Field::Name(_) | Field::Blank) = field_at(s, p, s.width + 1) else {
-        return None;
-    };
-    let (Field::Name(_) | Field::Blank) = field_at(s, p, s.width + (1 + s.width)) else {
-        return None;
-    };
+    optional_at(s, p, s.width + 1)?;
+    optional_at(s, p, s.width + (1 + s.width))?;
     Some(Record::Element(ElementFields {
         name: p + 1,
         class: class,
@@ -366,15 +402,9 @@ fn read_port(s: &Source, p: usize) -> Option<Record>
     requires { RecordAt (recipe s.now) p 3 (2 + 3 * s.now.width) }
     ensures { result ≡ reading_of (recipe s.now) p }
 {
-    let Field::Name(_) = field_at(s, p, 0) else {
-        return None;
-    };
-    let (Field::Name(_) | Field::Blank) = field_at(s, p, s.width) else {
-        return None;
-    };
-    let Some(way) = read_target(s, p, s.width) else {
-        return None;
-    };
+    name_at(s, p, 0)?;
+    optional_at(s, p, s.width)?;
+    let way = read_target(s, p, s.width)?;
     Some(Record::Port(PortFields {
         name: p + 1,
         submodel: p + 1 + s.width,
@@ -387,15 +417,11 @@ fn read_submodel(s: &Source, p: usize) -> Option<Record>
     requires { RecordAt (recipe s.now) p 4 (1 + 2 * s.now.width) }
     ensures { result ≡ reading_of (recipe s.now) p }
 {
-    let Field::Name(n) = field_at(s, p, 0) else {
-        return None;
-    };
+    let n = name_at(s, p, 0)?;
     if s.bytes[p + n] == b'_' {
         return None;
     }
-    let Field::Name(_) = field_at(s, p, s.width) else {
-        return None;
-    };
+    name_at(s, p, s.width)?;
     Some(Record::Submodel(SubmodelFields {
         name: p + 1,
         model: p + 1 + s.width,
@@ -407,15 +433,9 @@ fn read_factors(s: &Source, p: usize) -> Option<Record>
     requires { RecordAt (recipe s.now) p 8 (1 + 3 * s.now.width) }
     ensures { result ≡ reading_of (recipe s.now) p }
 {
-    let Field::Name(_) = field_at(s, p, 0) else {
-        return None;
-    };
-    let (Field::Name(_) | Field::Blank) = field_at(s, p, s.width) else {
-        return None;
-    };
-    let (Field::Name(_) | Field::Blank) = field_at(s, p, s.width + s.width) else {
-        return None;
-    };
+    name_at(s, p, 0)?;
+    optional_at(s, p, s.width)?;
+    optional_at(s, p, s.width + s.width)?;
     Some(Record::Factors(FactorsFields {
         submodel: p + 1,
         time: p + 1 + s.width,
@@ -423,24 +443,17 @@ fn read_factors(s: &Source, p: usize) -> Option<Record>
     }))
 }
 
-// The mark at p, of kind k.
-fn read_mark(s: &Source, p: usize, k: u8) -> Option<Mark>
+// The mark at p, whose submodel begins k bytes into its body.
+fn read_mark(s: &Source, p: usize, k: usize) -> Option<Mark>
     requires { MarkAt (recipe s.now) p k }
     ensures { result ≡ mark_reading (recipe s.now) p }
 {
-    let o = submodel_offset(k, s.width);
-    let Field::Name(_) = field_at(s, p, 0) else {
-        return None;
-    };
-    let Field::Name(_) = field_at(s, p, o) else {
-        return None;
-    };
-    let Some(way) = read_target(s, p, o) else {
-        return None;
-    };
+    name_at(s, p, 0)?;
+    name_at(s, p, k)?;
+    let way = read_target(s, p, k)?;
     Some(Mark {
         owner: p + 1,
-        submodel: p + 1 + o,
+        submodel: p + 1 + k,
         target: way,
     })
 }
@@ -450,35 +463,16 @@ pub fn read_record(s: &Source, p: usize) -> Option<Record>
     requires { is_readable (recipe s.now) p ≡ true }
     ensures { result ≡ reading_of (recipe s.now) p }
 {
-    let k = s.bytes[p];
-    if k == Kind::Model as u8 {
-        return read_model(s, p);
+    match Kind::of(s.bytes[p])? {
+        Kind::Model => read_model(s, p),
+        Kind::Element => read_element(s, p),
+        Kind::Port => read_port(s, p),
+        Kind::Submodel => read_submodel(s, p),
+        Kind::Deletion => Some(Record::Deletion(read_mark(s, p, 0)?)),
+        Kind::Replacement => Some(Record::Replacement(read_mark(s, p, s.width)?)),
+        Kind::ReplacedBy => Some(Record::ReplacedBy(read_mark(s, p, s.width)?)),
+        Kind::Factors => read_factors(s, p),
     }
-    if k == Kind::Element as u8 {
-        return read_element(s, p);
-    }
-    if k == Kind::Port as u8 {
-        return read_port(s, p);
-    }
-    if k == Kind::Submodel as u8 {
-        return read_submodel(s, p);
-    }
-    if k == Kind::Factors as u8 {
-        return read_factors(s, p);
-    }
-    if !is_mark(k) {
-        return None;
-    }
-    let Some(m) = read_mark(s, p, k) else {
-        return None;
-    };
-    if is_deletion(k) {
-        return Some(Record::Deletion(m));
-    }
-    if is_replaced_by(k) {
-        return Some(Record::ReplacedBy(m));
-    }
-    Some(Record::Replacement(m))
 }
 
 // The first record that row 3 refuses.

@@ -16,6 +16,10 @@ use Rattle.recipe.specs.Definitions.{holder}
 use Rattle.recipe.specs.Records.{Recipe, kind, record_length, next, places, field, first_field}
 use Rattle.recipe.proofs.Going.{none-past}
 use Rattle.recipe.proofs.Reading.{readable}
+use Rattle.recipe.proofs.Steps.{Over, At, over-step}
+use Rattle.recipe.specs.Steps.{StepsTo}
+use Rattle.recipe.specs.declared.Records.{Records}
+use Rattle.std.specs.Prelude.{Some}
 use Rattle.shadow.specs.Shadow.{Shadowed}
 use Rattle.shadow.proofs.Cells.{step-next, kept-all, Walking, walk_start, walk-place, walk-one}
 use Rattle.record_index.specs.Entries.{tag_of, tag_at, key_of, key_at, layout, Entered}
@@ -96,6 +100,11 @@ entering-start s t at fields keys = record {
   copying = record { long = refl; done = λ j h. absurd (omega arith) };
   keying = filled-start _ keys;
 }
+
+-- a step to the record at p, which is the first that is left
+pub entering-step : {s : Recipe} {t at₀ fields₀ keys₀ at fields keys : List ℕ} {i p : ℕ} {a b : Records} → Over s a × EntryLoop s t at₀ fields₀ keys₀ at fields keys i a.at → StepsTo a (Some p) b
+    → At s a p b × EntryLoop s t at₀ fields₀ keys₀ at fields keys i p
+entering-step g e = let z = over-step g.0 e in (z, rw z.place at g.1)
 
 module _ {s : Recipe} {t at₀ fields₀ keys₀ at fields keys : List ℕ} {i p : ℕ} (c : Shadowed s t) (g : EntryLoop s t at₀ fields₀ keys₀ at fields keys i p) where
   -- so many records fit

@@ -4,7 +4,7 @@ use Rattle.std.specs.Prelude.{None, Option, Some, option_map}
 use mathlib.Core.Path.{◌≡◌, refl, sym, ap, ◌∙◌}
 use mathlib.Core.Bool.{Bool, true, false, not, ◌&&◌, ◌||◌}
 use mathlib.Core.List.{List, ◌∷◌}
-use Prim.Native.Nat.{ℕ, zero, suc, ◌+◌, ◌*◌, ◌≤◌}
+use Prim.Native.Nat.{ℕ, ◌+◌, ◌*◌, ◌≤◌}
 use native.Mathlib.Omega.{arith}
 use lib.ListN.{length, get_or, drop, length-drop}
 use lib.Seq.{length-take-le}
@@ -16,7 +16,9 @@ use Rattle.names.specs.Scans.{scan}
 use Rattle.names.proofs.Tests.{by_cases, both, and_left, and_right}
 use Rattle.names.proofs.Lists.{in-keep, keep-in, none_first, some_first, first-none, first-is, same_true, eq-same, first-keep}
 use Rattle.names.proofs.Scans.{scan-same}
-use Rattle.recipe.specs.Records.{Recipe, kind, places, is_model, is_element, is_port, is_submodel, first_field, name}
+use Rattle.recipe.specs.declared.Kind.{Kind}
+use Rattle.recipe.specs.declared.Kind.TheVariants.{Model, Element, Port, Submodel, Deletion, Replacement, ReplacedBy, Factors}
+use Rattle.recipe.specs.Records.{Recipe, kind_byte, kind, places, is_model, is_element, is_port, is_submodel, first_field, name}
 use Rattle.recipe.specs.Definitions.{definitions, holder, records_of, elements, submodels, ports, named, definition_named, element_named, submodel_named, port_named}
 use Rattle.recipe.proofs.Rows.{first-name}
 use Rattle.recipe.specs.Reading.{fault₄}
@@ -30,15 +32,17 @@ use Rattle.record_index.proofs.Keys.{nothing, same_keys, same-fields}
 use Rattle.record_index.proofs.Repeats.{first-length, one_entry, R, numbered, entry-is}
 
 -- ---- the space in which a record of kind k, of definition d, has its name
-by-four : (P : ℕ → Type 0) → P 1 → P 2 → P 3 → P 4 → (k : ℕ) → 1 ≤ k → k ≤ 4 → P k
-by-four P a b c d zero l h = absurd (omega arith)
-by-four P a b c d (suc zero) l h = a
-by-four P a b c d (suc (suc zero)) l h = b
-by-four P a b c d (suc (suc (suc zero))) l h = c
-by-four P a b c d (suc (suc (suc (suc zero)))) l h = d
-by-four P a b c d (suc (suc (suc (suc (suc k))))) l h = absurd (omega arith)
+by-four : (P : ℕ → Type 0) → P 1 → P 2 → P 3 → P 4 → (k : Kind) → kind_byte k ≤ 4 → P (kind_byte k)
+by-four P a b c d Model h = a
+by-four P a b c d Element h = b
+by-four P a b c d Port h = c
+by-four P a b c d Submodel h = d
+by-four P a b c d Deletion h = absurd (omega arith)
+by-four P a b c d Replacement h = absurd (omega arith)
+by-four P a b c d ReplacedBy h = absurd (omega arith)
+by-four P a b c d Factors h = absurd (omega arith)
 
-one-space : (p h d k : ℕ) → 1 ≤ k → k ≤ 4 → eqb k 1 || eqb h d ≡ true → tag_of k p h ≡ tag_of k 0 d
+one-space : (p h d : ℕ) (k : Kind) → kind_byte k ≤ 4 → eqb (kind_byte k) 1 || eqb h d ≡ true → tag_of (kind_byte k) p h ≡ tag_of (kind_byte k) 0 d
 unfolding tag_of
 one-space p h d =
     by-four (λ k. eqb k 1 || eqb h d ≡ true → tag_of k p h ≡ tag_of k 0 d)
@@ -47,7 +51,7 @@ one-space p h d =
     (λ e. ap (λ (x : ℕ). 8 * x + 2) (eqb-true h d e))
     (λ e. ap (λ (x : ℕ). 8 * x + 1) (eqb-true h d e))
 
-space-one : (p h d k : ℕ) → 1 ≤ k → k ≤ 4 → tag_of k p h ≡ tag_of k 0 d → eqb k 1 || eqb h d ≡ true
+space-one : (p h d : ℕ) (k : Kind) → kind_byte k ≤ 4 → tag_of (kind_byte k) p h ≡ tag_of (kind_byte k) 0 d → eqb (kind_byte k) 1 || eqb h d ≡ true
 unfolding tag_of
 space-one p h d =
     by-four (λ k. tag_of k p h ≡ tag_of k 0 d → eqb k 1 || eqb h d ≡ true)
@@ -57,14 +61,17 @@ space-one p h d =
     (λ e. let z : 8 * h + 1 ≡ 8 * d + 1 = e in eq-eqb h d (omega arith))
 
 -- ---- the look-up, by what the index answers
-module _ (x : RecordIndex) (once : fault₄ (recipe_of x) ≡ None) {q : Sought} (g : SoughtIn (recipe_of x) q) {t k : ℕ} {f : List ℕ} (et : t ≡ tag_of q.kind 0 q.definition)
+module _ (x : RecordIndex) (once : fault₄ (recipe_of x) ≡ None) {q : Sought} (g : SoughtIn (recipe_of x) q) {b t k : ℕ} {f : List ℕ} (eb : b ≡ kind_byte q.kind) (et : t ≡ tag_of b 0 q.definition)
     (ef : f ≡ field_at x.source.now.width x.source.now.bytes.now q.name) (ek : k ≡ key_of t f) where
   -- what is sought, and the records among which it is
+  abbrev asked : ℕ
+  asked = kind_byte q.kind
+
   abbrev answered : Option ℕ
-  answered = record_named (R x) q.kind q.definition (text (field_at x.source.now.width x.source.now.bytes.now q.name))
+  answered = record_named (R x) asked q.definition (text (field_at x.source.now.width x.source.now.bytes.now q.name))
 
   abbrev among : List ℕ
-  among = keep (is_of (R x) q.kind q.definition) (places (R x))
+  among = keep (is_of (R x) asked q.definition) (places (R x))
 
   -- a record'(R x) name is the one looked for just where its first field is
   same-named : (p : ℕ) → In p (places (R x)) → same (first_field (R x) p) f ≡ same (name (R x) p) (text f)
@@ -74,18 +81,18 @@ module _ (x : RecordIndex) (once : fault₄ (recipe_of x) ≡ None) {q : Sought}
       sym (same-fields (first_field (R x) p) f (first-name (R x) x.formed p i) (rw ef g.reads) (first-length (R x) p i ∙ sym l))
 
   -- one of them has its name in the space t, and a record of that kind which has is one of them
-  of-tag : (p : ℕ) → In p among → (kind (R x) p ≡ q.kind) × (tag_at (R x) p ≡ t)
+  of-tag : (p : ℕ) → In p among → (kind (R x) p ≡ asked) × (tag_at (R x) p ≡ t)
   unfolding is_of tag_at
   of-tag p i =
-      let e = (in-keep (is_of (R x) q.kind q.definition) (places (R x)) p i).1 in
-      let z = eqb-true (kind (R x) p) q.kind (and_left (eqb (kind (R x) p) q.kind) _ e) in
-      (z, rw (z, et) (one-space p (holder (R x) p) q.definition q.kind g.least g.most (and_right (eqb (kind (R x) p) q.kind) _ e)))
+      let e = (in-keep (is_of (R x) asked q.definition) (places (R x)) p i).1 in
+      let z = eqb-true (kind (R x) p) asked (and_left (eqb (kind (R x) p) asked) _ e) in
+      (z, rw (z, et, eb) (one-space p (holder (R x) p) q.definition q.kind g.most (and_right (eqb (kind (R x) p) asked) _ e)))
 
-  tag-of : (p : ℕ) → In p (places (R x)) → kind (R x) p ≡ q.kind → tag_at (R x) p ≡ t → In p among
+  tag-of : (p : ℕ) → In p (places (R x)) → kind (R x) p ≡ asked → tag_at (R x) p ≡ t → In p among
   unfolding is_of tag_at
   tag-of p i z e =
-      keep-in (is_of (R x) q.kind q.definition) (places (R x)) p i
-      (both (eq-eqb (kind (R x) p) q.kind z) (space-one p (holder (R x) p) q.definition q.kind g.least g.most (rw (z, et) at e)))
+      keep-in (is_of (R x) asked q.definition) (places (R x)) p i
+      (both (eq-eqb (kind (R x) p) asked z) (space-one p (holder (R x) p) q.definition q.kind g.most (rw (z, et, eb) at e)))
 
   none_here : ((p : ℕ) → In p among → same (name (R x) p) (text f) ≡ false) → None ≡ answered
   unfolding record_named named
@@ -114,7 +121,7 @@ module _ (x : RecordIndex) (once : fault₄ (recipe_of x) ≡ None) {q : Sought}
       let e : None ≡ gives = sym v ∙ u in
       none_here
       (λ p i.
-      let j = (in-keep (is_of (R x) q.kind q.definition) (places (R x)) p i).0 in
+      let j = (in-keep (is_of (R x) asked q.definition) (places (R x)) p i).0 in
       let o = none_first hits (places (R x)) p (entry-scan ∙ ap (option_map (numbered x)) (sym e)) j in
       sym (same-named p j) ∙ (rw (eq-eqb (tag_at (R x) p) t (of-tag p i).1) at o))
 
@@ -137,20 +144,20 @@ module _ (x : RecordIndex) (once : fault₄ (recipe_of x) ≡ None) {q : Sought}
 
     only : (p : ℕ) → In p among → same (name (R x) p) (text f) ≡ true → p ≡ get_or x.at.now i 0
     only p j z =
-        one_entry (R x) once p (get_or x.at.now i 0) (in-keep (is_of (R x) q.kind q.definition) (places (R x)) p j).0 found.0 ((of-tag p j).1 ∙ sym found.1)
+        one_entry (R x) once p (get_or x.at.now i 0) (in-keep (is_of (R x) asked q.definition) (places (R x)) p j).0 found.0 ((of-tag p j).1 ∙ sym found.1)
         (same_true (name (R x) p) (text f) z ∙ sym found.2)
 
     module _ {p : ℕ} (ep : p ≡ get_or x.at.now i 0) where
-      pub sought-some : get_or x.source.now.bytes.now p 0 ≡ q.kind → Some p ≡ answered
+      pub sought-some : get_or x.source.now.bytes.now p 0 ≡ b → Some p ≡ answered
       unfolding kind record_named named
       sought-some h =
-          rw (← ef, ep) (sym (first-is (λ p. same (name (R x) p) (text f)) among (get_or x.at.now i 0) (tag-of (get_or x.at.now i 0) found.0 (rw ep at h) found.1) (eq-same found.2) only))
+          rw (← ef, ep) (sym (first-is (λ p. same (name (R x) p) (text f)) among (get_or x.at.now i 0) (tag-of (get_or x.at.now i 0) found.0 (rw (ep, eb) at h) found.1) (eq-same found.2) only))
 
-      pub sought-other : (get_or x.source.now.bytes.now p 0 ≡ q.kind → ⊥) → None ≡ answered
+      pub sought-other : (get_or x.source.now.bytes.now p 0 ≡ b → ⊥) → None ≡ answered
       unfolding kind
       sought-other h =
           none_here
-          (λ r j. by_cases (same (name (R x) r) (text f)) (λ u. absurd (h (rw ep (sym (ap (kind (R x)) (only r j u)) ∙ (of-tag r j).0)))) (λ u. u))
+          (λ r j. by_cases (same (name (R x) r) (text f)) (λ u. absurd (h (rw (ep, eb) (sym (ap (kind (R x)) (only r j u)) ∙ (of-tag r j).0)))) (λ u. u))
 
 -- ---- the look-ups of the definitions are those of a kind
 shuffled : (a b c m : Bool) → (b ≡ true → m ≡ false) → (not m && a) && (b && c) ≡ (b && (false || a)) && c

@@ -6,19 +6,29 @@ use Rattle.names.specs.Names.{is_name, field_at}
 use Rattle.name_index.specs.declared.Layout.{Layout}
 use Rattle.name_index.specs.Hash.{hash_of}
 use Rattle.name_index.specs.Index.{name_of, Whole}
-use Rattle.recipe.specs.Records.{Recipe, port_kind, replaced_by_kind, kind, places, first_field}
+use Rattle.recipe.specs.Records.{Recipe, kind_byte, port_kind, replaced_by_kind, kind, places, first_field}
 use Rattle.recipe.specs.Definitions.{holder, named}
+use Rattle.record_index.specs.declared.Space.{Space}
+use Rattle.record_index.specs.declared.Space.TheVariants.{Models, Names, Ports, ReplacedBys, Own}
 use Rattle.record_index.specs.declared.Sought.{Sought}
+
+-- the number of a name space
+abbrev pub space_number : Space → ℕ
+space_number Models = 0
+space_number Names = 1
+space_number Ports = 2
+space_number ReplacedBys = 3
+space_number Own = 4
 
 -- where a record of kind k at p, of definition d, has its name: models share one space; elements and submodels of a definition share one,
 -- its ports one, and its replaced-by's, by their owners; each record of another kind has one of its own
 unfoldable pub tag_of : ℕ → ℕ → ℕ → ℕ
 tag_of k p d =
-    cond (eqb k 1) 0
-    (cond (port_kind k) (8 * d + 2)
-    (cond (replaced_by_kind k) (8 * d + 3)
-    (cond (eqb k 2 || eqb k 4) (8 * d + 1)
-    (8 * p + 4))))
+    cond (eqb k 1) (space_number Models)
+    (cond (port_kind k) (8 * d + space_number Ports)
+    (cond (replaced_by_kind k) (8 * d + space_number ReplacedBys)
+    (cond (eqb k 2 || eqb k 4) (8 * d + space_number Names)
+    (8 * p + space_number Own))))
 
 -- that of the record at p
 unfoldable pub tag_at : Recipe → ℕ → ℕ
@@ -54,8 +64,7 @@ record_named s k d n = named s n (keep (is_of s k d) (places s))
 
 -- what may be sought: one of these, by a name in the recipe
 pub record SoughtIn (s : Recipe) (q : Sought) : Type 0 where
-  pub least : 1 ≤ q.kind
-  pub most : q.kind ≤ 4
+  pub most : kind_byte q.kind ≤ 4
   pub low : q.definition < 16384
   pub room : q.name + s.width ≤ length s.bytes
   pub reads : is_name (field_at s.width s.bytes q.name) ≡ true

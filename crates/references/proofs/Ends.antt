@@ -15,8 +15,9 @@ use Rattle.tree.specs.Numbers.{number}
 use Rattle.tree.specs.Tree.{Node, tree_elements}
 use Rattle.elements.specs.Columns.{Nexts}
 use Rattle.marks.specs.Marks.{chain_end, chain_within, step}
-use Rattle.elements.specs.Steps.{next_of, step_of}
-use Rattle.elements.proofs.Nexts.{next-some, next-suc}
+use Rattle.tree.specs.Steps.{next_of}
+use Rattle.elements.specs.Steps.{step_of}
+use Rattle.tree.proofs.Nexts.{next-some, next-suc}
 use Rattle.references.specs.Ends.{Stepping, followed}
 use Rattle.elements.proofs.Elements.{element-at, number-low}
 use Rattle.marks.proofs.Marks.{step_in}

@@ -14,10 +14,11 @@ use Rattle.names.proofs.Lists.{any-in, any_some, first-none, none_first, some_fi
 use Rattle.names.proofs.Tests.{and_left, and_right, both, by_cases, by-option, not-both, not_none, the-some, three}
 use Rattle.recipe.specs.Records.{Recipe, places}
 use Rattle.recipe.proofs.Reading.{lowest-place}
+use Rattle.tree.specs.Faults.{fault₇}
 use Rattle.tree.specs.Numbers.{number}
+use Rattle.tree.specs.Steps.{cell_of}
 use Rattle.tree.specs.Tree.{Node, tree_elements}
 use Rattle.tree.proofs.Numbering.{number-inj}
-use Rattle.targets.specs.Targeted.{Targeted}
 use Rattle.marks.specs.Faults.{fault₁₂, is_reference_fault}
 use Rattle.marks.specs.Marks.{survivors}
 use Rattle.marks.proofs.Survivors.{survives, survivor}
@@ -109,13 +110,13 @@ pub passed-start : (s : Recipe) (el : List ℕ) → Passed s el el 0 None
 passed-start s el = record { least = lowest_start s; only = only_same 4 el; ends = filled-start s (survivors s) 4 (end_of s) el }
 
 -- what `first_misreferred` requires
-abbrev Asked : Recipe → List ℕ → Type 0
-Asked s el₀ = ElementRows s el₀ × (Gones s el₀ × Nexts s el₀)
+abbrev Asked : Recipe → List ℕ → ℕ → Type 0
+Asked s el₀ n = ElementRows s el₀ × (Gones s el₀ × (Nexts s el₀ × (n ≡ length (tree_elements s))))
 
-module _ {s : Recipe} {t inst el₀ el : List ℕ} {insts n e : ℕ} {lowest : Option ℕ} (T : Targeted s t inst insts) (count : n ≡ length (tree_elements s)) (A : Asked s el₀) (P : Passed s el₀ el e lowest) where
+module _ {s : Recipe} {el₀ el : List ℕ} {n e : ℕ} {lowest : Option ℕ} (h₇ : fault₇ s ≡ None) (A : Asked s el₀ n) (P : Passed s el₀ el e lowest) where
   pub passed-end : n ≤ e → (lowest ≡ fault₁₂ s) × (Ends s el × Only 4 el₀ el)
   passed-end l =
-      let all : (x : Node) → In x (survivors s) → number s x < e = λ x i. omega (arith, number-low s T.planted.row₇ x (survivor s x i).0, count) in
+      let all : (x : Node) → In x (survivors s) → number s x < e = λ x i. omega (arith, number-low s h₇ x (survivor s x i).0, A.1.1.1) in
       (lowest-end P.least all, (filled-end s (survivors s) 4 (end_of s) el e all P.ends, P.only))
 
   pub passed-rows : ElementRows s el
@@ -125,14 +126,14 @@ module _ {s : Recipe} {t inst el₀ el : List ℕ} {insts n e : ℕ} {lowest : O
   passed-gones = column-over s P.only 2 (omega arith) (λ z. omega arith) A.1.0
 
   pub passed-nexts : Nexts s el
-  passed-nexts = column-over s P.only 3 (omega arith) (λ z. omega arith) A.1.1
+  passed-nexts = column-over s P.only 3 (omega arith) (λ z. omega arith) A.1.1.0
 
   module _ (l : e < n) where
     pub turn-number : Numbers s e
-    turn-number = element-at s T.planted.row₇ e (omega (arith, count))
+    turn-number = element-at s h₇ e (omega (arith, A.1.1.1))
 
     pub turn-element : {p : ℕ} → p ≡ get_or el (5 * e + 0) 0 → Element s e p
-    turn-element r = row-element T.planted.row₇ passed-rows turn-number r
+    turn-element r = row-element h₇ passed-rows turn-number r
 
     -- it is gone
     pub turn-gone : {b : Bool} → b ≡ not (eqb (get_or el (5 * e + 2) 0) 0) → b ≡ true → Passed s el₀ el (e + 1) lowest
@@ -140,28 +141,29 @@ module _ {s : Recipe} {t inst el₀ el : List ℕ} {insts n e : ℕ} {lowest : O
         let gone : (x : Node) → In x (survivors s) → number s x ≡ e → ⊥ = λ x i m. not-both (sym (gone-told s el passed-gones r x (survivor s x i).0 m) ∙ z) (survivor s x i).1 in
         record { least = lowest-more P.least (λ x i m. absurd (gone x i m)); only = P.only; ends = filled-skip s (survivors s) 4 (end_of s) el e gone P.ends }
 
-    -- it survives, and v is written for the end of its chain
-    module _ (v : ℕ) {el' : List ℕ} (w : el' ≡ set el (5 * e + 4) v) where
+    -- it survives, and o is written as the number of the end of its chain
+    module _ (o : Option ℕ) {el' : List ℕ} (w : el' ≡ set el (5 * e + 4) (cell_of o)) where
       pub turn-judged : ElementRows s el' × Gones s el'
       turn-judged =
-          let o = only_set {k = 4} (omega arith) (only_same 4 el) e v in
+          let o = only_set {k = 4} (omega arith) (only_same 4 el) e (cell_of o) in
           rw w (rows-over s o (omega arith) passed-rows, column-over s o 2 (omega arith) (λ z. omega arith) passed-gones)
 
-      module _ (V : EndAt s e v) {u : Bool} (F : FaultAt s e u) where
+      module _ (V : EndAt s e o) {u : Bool} (F : FaultAt s e u) where
         written : {m : Option ℕ} → Lowest s (e + 1) m → Passed s el₀ el' (e + 1) m
+        unfolding end_of
         written L =
-            let room = row_room T.planted.row₇ passed-rows turn-number in
+            let room = row_room h₇ passed-rows turn-number in
             rw w (record {
               least = L;
-              only = only_set (omega arith) P.only e v;
-              ends = filled-one s (survivors s) 4 (end_of s) el e v (omega (arith, room)) (λ x i m. V x (survivor s x i).0 m) P.ends;
+              only = only_set (omega arith) P.only e (cell_of o);
+              ends = filled-one s (survivors s) 4 (end_of s) el e (cell_of o) (omega (arith, room)) (λ x i m. ap cell_of (V x (survivor s x i).0 m)) P.ends;
             })
 
         pub turn-fit : u ≡ false → Passed s el₀ el' (e + 1) lowest
         turn-fit h = written (lowest-more P.least (λ x i m. sym (F x (survivor s x i).0 m) ∙ h))
 
-        pub turn-fault : {b : Bool} {p : ℕ} → b ≡ not (eqb (get_or el (5 * e + 2) 0) 0) → p ≡ get_or el (5 * e + 0) 0 → b ≡ false → u ≡ true → Passed s el₀ el' (e + 1) (Some (min (unwrap_or lowest p) p))
-        turn-fault rc rp z h =
+        pub turn-fault : {b : Bool} {p m : ℕ} → b ≡ not (eqb (get_or el (5 * e + 2) 0) 0) → p ≡ get_or el (5 * e + 0) 0 → b ≡ false → u ≡ true → m ≡ min (unwrap_or lowest p) p → Passed s el₀ el' (e + 1) (Some m)
+        turn-fault rc rp z h rm =
             let E = turn-element rp in
             let i = survives s E.it E.tree (sym (gone-told s el passed-gones rc E.it E.tree E.num) ∙ z) in
-            written (lowest-take P.least E.it i E.at (sym (F E.it E.tree E.num) ∙ h) (λ y j m. number-inj s T.planted.row₇ y E.it (survivor s y j).0 E.tree (m ∙ sym E.num)))
+            rw rm (written (lowest-take P.least E.it i E.at (sym (F E.it E.tree E.num) ∙ h) (λ y j n. number-inj s h₇ y E.it (survivor s y j).0 E.tree (n ∙ sym E.num))))

@@ -1,12 +1,12 @@
 -- The end of a chain: by the column of steps, and from the reference of a survivor, column 4.
 -- Assumes nothing.
-use Rattle.std.specs.Prelude.{◌*◌, ◌+◌, ◌<◌, ◌≤◌, suc, zero, ℕ, get_or, length, List, ◌≡◌, None, Option, Some}
+use Rattle.std.specs.Prelude.{◌*◌, ◌+◌, ◌<◌, ◌≤◌, suc, zero, ℕ, get_or, length, List, ◌≡◌, None, Option, Some, option_map}
 use Rattle.names.specs.Lists.{In}
 use Rattle.recipe.specs.Records.{Recipe}
 use Rattle.tree.specs.Numbers.{number}
 use Rattle.tree.specs.Tree.{Node, reference_of}
 use Rattle.marks.specs.Marks.{chain_end, survivors}
-use Rattle.elements.specs.Steps.{next_of}
+use Rattle.tree.specs.Steps.{cell_of, next_of}
 
 -- the number that n steps at most lead to from the element of number z
 unfoldable pub followed : List ℕ → ℕ → ℕ → ℕ
@@ -20,14 +20,13 @@ pub record Stepping (el : List ℕ) (e : ℕ) : Type 0 where
   pub room : 5 * elems ≤ length el
   pub within : (z : ℕ) → z < elems → get_or el (5 * z + 3) 0 ≤ elems
 
--- one more than the number of the end of the chain from the reference of x, or 0
-unfoldable pub end_of : Recipe → Node → ℕ
-end_of s x = elim (reference_of s x) [ None ↦ 0 | Some y ↦ number s (chain_end s y) + 1 ]
+-- the number of the end of the chain from the reference of x, if it has one
+abbrev pub end_number : Recipe → Node → Option ℕ
+end_number s x = option_map (λ y. number s (chain_end s y)) (reference_of s x)
 
--- what column 4 has for the end of number z, and for none
-abbrev pub end_cell : Option ℕ → ℕ
-end_cell None = 0
-end_cell (Some z) = z + 1
+-- what column 4 has of it
+unfoldable pub end_of : Recipe → Node → ℕ
+end_of s x = cell_of (end_number s x)
 
 -- column 4, of the survivors
 abbrev pub Ends : Recipe → List ℕ → Type 0

@@ -6,14 +6,14 @@ use Prim.Native.Nat.{ℕ, ◌+◌, ◌≤◌, ◌<◌}
 use native.Mathlib.Omega.{arith}
 use mathlib.Core.Path.{◌≡◌, refl, ap, sym, ◌∙◌}
 use mathlib.Core.Logic.{inl, inr, ⊎_elim}
-use mathlib.Core.Bool.{Bool, true, false, not, ◌&&◌}
+use mathlib.Core.Bool.{Bool, true, false}
 use mathlib.Core.List.{List, [], ◌∷◌}
 use lib.ListN.{length, get_or, set, length-set}
 use lib.Seq.{get_or-set_same, get_or-set_other}
 use lib.Dec.{ltb, eqb}
-use borrow.Author.Tests.{not-true, ltb-true, eqb-true, eqb-false}
+use borrow.Author.Tests.{ltb-true, eqb-true, eqb-false}
 use Rattle.names.specs.Lists.{In, among, every}
-use Rattle.names.proofs.Tests.{by_cases, three, and_left, and_right, not-both}
+use Rattle.names.proofs.Tests.{by_cases, three, and_left, not-both}
 use Rattle.recipe.specs.Records.{Recipe, kind, is_known, record_length, next, is_readable, places}
 use Rattle.recipe.proofs.Bodies.{kind-least}
 use Rattle.recipe.proofs.Reading.{readable, readable-fits, next_more, before-this}

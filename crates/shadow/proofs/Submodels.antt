@@ -1,23 +1,23 @@
 -- The submodels of a definition, one behind another: which is the next behind a record.
 -- Assumes nothing.
-use Rattle.std.specs.Prelude.{None, Some}
-use Prim.Native.Nat.{◌+◌, ◌<◌, ◌≤◌, suc, zero, ℕ}
+use Rattle.std.specs.Prelude.{None, Some, unwrap_or}
+use Prim.Native.Nat.{◌+◌, ◌<◌, ◌≤◌, suc, ℕ}
 use borrow.Author.Tests.{eq-eqb, eqb-true, le-ltb, lt-ltb, ltb-false, ltb-true, ne_eqb, not-true}
 use lib.Dec.{eqb, ltb}
 use lib.ListN.{get_or, length}
 use mathlib.Core.Bool.{Bool, ◌&&◌, false, not, true}
 use mathlib.Core.List.{List, [], ◌∷◌}
-use mathlib.Core.Logic.{inl, inr, ⊎_elim}
-use mathlib.Core.Path.{◌∙◌, ◌≡◌, ap, refl, sym}
+use mathlib.Core.Logic.{inl, inr}
+use mathlib.Core.Path.{◌≡◌, ap, refl, sym}
 use native.Mathlib.Omega.{arith}
 use Rattle.names.specs.Lists.{In, first, keep}
-use Rattle.names.proofs.Lists.{first-none, in-keep, keep-in, some_first}
-use Rattle.names.proofs.ListOrder.{Rising, rising-in}
-use Rattle.names.proofs.Tests.{and_left, apart, both, by_cases, not-both, not_none, some-none, the-some, three}
+use Rattle.names.proofs.Lists.{first-none, in-keep, keep-in, none_first, some_first}
+use Rattle.names.proofs.ListOrder.{Rising, first-lowest, rising-in}
+use Rattle.names.proofs.Tests.{and_left, apart, both, by-option, by_cases, not-both, not_none, some-none, the-some, three}
 use Rattle.recipe.specs.Definitions.{definitions, holder, records_of, submodels}
-use Rattle.recipe.specs.Records.{Recipe, is_model, is_readable, is_submodel, kind, next, places, places_from, record_length, stop, stop_from}
+use Rattle.recipe.specs.Records.{Recipe, is_model, is_submodel, kind, next, places, record_length}
 use Rattle.recipe.proofs.Definitions.{holder_in, holder-is, in-submodels}
-use Rattle.recipe.proofs.Going.{Going, Here, going_on, here}
+use Rattle.recipe.proofs.Going.{FirstIn, going_more, reach-place, Going, Here, going_on, here}
 use Rattle.recipe.proofs.Reading.{next_more, place-low, readable, readable-fits}
 use Rattle.recipe.proofs.Spans.{definition-place, holder-above, holder-below, in-definitions}
 use Rattle.shadow.proofs.Cells.{next-apart, step-next}
@@ -65,6 +65,28 @@ module _ (s : Recipe) where
       keep-in (is_submodel s) (records_of s d) q
       (keep-in (λ p. not (is_model s p) && eqb (holder s p) d) (places s) q i (both (ap not m) (eq-eqb (holder s q) d h))) k
 
+  -- the first submodel of d behind p, or the recipe's length where there is none: it is one, or the end, and there is none between
+  abbrev pub submodel_after : ℕ → ℕ → ℕ
+  submodel_after d p = unwrap_or (first (ltb p) (submodels s d)) (length s.bytes)
+
+  pub after-within : (d p : ℕ) → submodel_after d p ≤ length s.bytes
+  after-within d p =
+      by-option (first (ltb p) (submodels s d))
+      (λ e. rw e (omega arith))
+      (λ a e. rw e (omega (arith, place-low s a (in-submodels s d a (some_first (ltb p) (submodels s d) a e).0).placed)))
+
+  pub after_one : (d p : ℕ) → submodel_after d p < length s.bytes → In (submodel_after d p) (submodels s d)
+  after_one d p l =
+      by-option (first (ltb p) (submodels s d))
+      (λ e. let k : length s.bytes < length s.bytes = rw e at l in absurd (omega arith))
+      (λ a e. rw e (some_first (ltb p) (submodels s d) a e).0)
+
+  pub after_first : (d p m : ℕ) → In m (submodels s d) → p < m → m < submodel_after d p → ⊥
+  after_first d p m i h l =
+      by-option (first (ltb p) (submodels s d))
+      (λ e. omega (arith, ltb-false p m (none_first (ltb p) (submodels s d) m e i)))
+      (λ a e. let k : m < a = rw e at l in omega (arith, ltb-false p m (first-lowest (ltb p) 0 (submodels s d) a m (submodels-rise s d) e i k)))
+
   -- a submodel of d stands behind d
   pub submodel-behind : (d m : ℕ) → In d (definitions s) → In m (submodels s d) → d < m
   unfolding records_of
@@ -91,29 +113,8 @@ module _ (s : Recipe) where
 
   -- ---- the search
   -- where a loop goes on behind a record
-  going-from : (n p₀ p : ℕ) → In p (places_from n s p₀) → length s.bytes ≤ p₀ + n → stop s ≡ stop_from n s p₀
-      → ((x : ℕ) → In x (places_from n s p₀) → In x (places s)) → Going s (λ x. false) (next s p)
-  unfolding places_from stop_from
-  going-from zero p₀ p i e st ins = absurd i
-  going-from (suc n) p₀ p i e st ins =
-      by_cases (is_readable s p₀)
-      (λ b. ⊎_elim
-      (λ (q : p ≡ p₀).
-      rw q (record {
-        tries = n;
-        enough = omega (arith, next_more s p₀);
-        stops = rw (b, stop_from) at st;
-        inside = λ x j. ins x (rw (b, places_from) (inr j));
-        rest = first-none (λ x. false) (places s) (λ x j. refl) ∙ sym (first-none (λ x. false) (places_from n s (next s p₀)) (λ x j. refl));
-      }))
-      (λ (j : In p (places_from n s (next s p₀))).
-      going-from n (next s p₀) p j (omega (arith, next_more s p₀)) (rw (b, stop_from) at st) (λ x k. ins x (rw (b, places_from) (inr k))))
-      (rw (b, places_from) at i))
-      (λ b. absurd (rw (b, places_from) at i))
-
   going-behind : (p : ℕ) → In p (places s) → Going s (λ x. false) (next s p)
-  unfolding places stop
-  going-behind p i = going-from (length s.bytes) 0 p i (omega arith) refl (λ x j. j)
+  going-behind p i = going_more (reach-place s (FirstIn s (λ x. false)) p (λ x ps l e. record { same = e.same }) (record { same = refl }) i) refl
 
   -- the search at q for the first submodel behind p, of the same definition: none stands between, nor does another definition begin
   pub record SearchLoop (p q : ℕ) : Type 0 where

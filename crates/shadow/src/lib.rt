@@ -1,8 +1,8 @@
 // The shadow of a recipe: one lent table for all that is known of its records. Cell k of the record at p is t[p + k]; `specs/Columns.antt` has what each cell means.
-// For the floors above: the cells' numbers, cell, link and set_cell; clear_cells; number_records, which fills the cells 0 to 2; SubmodelsOf, a definition's submodels one after the other.
+// For the floors above: number_at, of any table of numbers; the cells' numbers, cell and set_cell, link and set_link; clear_cells; number_records, which fills the cells 0 to 2; SubmodelsOf, a definition's submodels one after the other.
 #![tactic(auto)]
 
-ghost use Rattle.std.specs.Prelude.{◌≡◌, [], ◌∷◌, ◌+◌, ◌<◌, length, get_or, ltb, set, IfSome};
+ghost use Rattle.std.specs.Prelude.{◌≡◌, [], ◌∷◌, ◌+◌, ◌<◌, length, get_or, ltb, set, unwrap_or, IfSome};
 ghost use Rattle.std.specs.Iterator.{YieldsFirst, item_count};
 ghost use Rattle.names.specs.Lists.{In, first};
 ghost use Rattle.recipe.specs.Definitions.{definitions, holder, submodels};
@@ -47,12 +47,20 @@ pub const TARGET_NUMBER: usize = 9;
 
 pub const TARGET: usize = 10;
 
+// The number at i of a table of numbers.
+pub fn number_at(t: &[u16], i: usize) -> usize
+    requires { i < length t.now }
+    ensures { result ≡ get_or t.now i 0 }
+{
+    recipe::wide(t[i])
+}
+
 // Cell k of the row at p.
 pub fn cell(t: &[u16], p: usize, k: usize) -> usize
     requires { p + k < length t.now }
     ensures { (result ≡ get_or t.now (p + k) 0) × (result < 65536) }
 {
-    recipe::wide(t[p + k])
+    number_at(t, p + k)
 }
 
 // What cell k of the row at p names: a record, by its place, or nothing, by 0.
@@ -73,6 +81,14 @@ pub fn set_cell(t: &mut [u16], p: usize, k: usize, x: usize)
     ensures { t.new ≡ set t.old (p + k) x }
 {
     t[p + k] = x as u16;
+}
+
+// Writes what cell k of the row at p names: a record, by its place, or nothing, by 0.
+pub fn set_link(t: &mut [u16], p: usize, k: usize, to: Option<u16>)
+    requires { p + k < length t.old }
+    ensures { t.new ≡ set t.old (p + k) (unwrap_or to 0) }
+{
+    t[p + k] = to.unwrap_or(0);
 }
 
 // Clears cell k of each record.

@@ -10,33 +10,48 @@ use mathlib.Core.Logic.{⊎_elim}
 use mathlib.Core.Path.{◌∙◌, ◌≡◌, refl, sym}
 use Rattle.names.proofs.Tests.{or_cases, or_left}
 use Rattle.recipe.specs.Definitions.{holder, owner_of}
-use Rattle.recipe.specs.Records.{Recipe, byte, class, is_element, is_mark, is_owned, is_port, is_replaced_by, is_replacement, kind, owned_kind, record_length}
+use Rattle.recipe.specs.declared.Records.{Records}
+use Rattle.recipe.specs.Records.{Recipe, byte, class, is_element, is_mark, is_owned, is_port, is_replaced_by, is_replacement, kind, owned_kind}
+use Rattle.recipe.specs.Steps.{StepsTo}
 use Rattle.recipe.proofs.Bodies.{owned-kind}
 use Rattle.recipe.proofs.Definitions.{Held, in-elements}
-use Rattle.recipe.proofs.Going.{Going, Here, class_low, going_on, here}
+use Rattle.recipe.proofs.Going.{Going, Here, class_low, going-hit, going_on, here}
 use Rattle.recipe.proofs.Rows.{owner-element, replaced-by-mark, replacement-mark}
+use Rattle.recipe.proofs.Steps.{Over, over-step}
 use Rattle.shadow.specs.Shadow.{Shadowed}
 use Rattle.shadow.proofs.Cells.{row_room}
-use Rattle.tree.specs.Faults.{is_class_fault}
+use Rattle.tree.specs.Faults.{fault₁₀, is_class_fault}
 use Rattle.targets.specs.Targeted.{Aimed}
 use Rattle.tree.specs.Tree.{Node, definition_below, target}
 use Rattle.tree.proofs.Rows.{target-exists}
 use Rattle.tree.proofs.Targets.{target-walk, walk-element}
 
-module _ {s : Recipe} {t : List ℕ} (A : Aimed s t) {p : ℕ} (g : Going s (is_class_fault s) p) (l : p < length s.bytes) where
+-- no record before the next one is misclassed
+abbrev pub Judged : Recipe → Records → Type 0
+Judged s a = Over s a × Going s (is_class_fault s) a.at
+
+-- ---- a step to the record at p
+module _ {s : Recipe} {t : List ℕ} (A : Aimed s t) {v w : Records} {p : ℕ} (g : Judged s v) (step : StepsTo v (Some p) w) where
   c₀ : Shadowed s t
   c₀ = A.measured.linked.numbered.shadowed
 
-  pub this : Here s (is_class_fault s) p
-  this = here s (is_class_fault s) p c₀.whole g l
+  this : Here s (is_class_fault s) p
+  this = let z = over-step g.0 step in here s (is_class_fault s) p c₀.whole (rw z.place at g.1) z.inside
 
   pub row_here : p + 13 ≤ length t
   row_here = row_room c₀ p this.place
 
+  pub judged-hit : is_class_fault s p ≡ true → Some p ≡ fault₁₀ s
+  unfolding fault₁₀
+  judged-hit h = sym (going-hit this h)
+
+  pub judged-on : is_class_fault s p ≡ false → Judged s w
+  judged-on h = let z = over-step g.0 step in (z.over, rw z.on (going_on this h refl))
+
   -- a record without an owner
-  pub not-owned : {b : Bool} → b ≡ owned_kind (get_or s.bytes p 0) → b ≡ false → Going s (is_class_fault s) (p + record_length s.width (get_or s.bytes p 0))
+  pub not-owned : {b : Bool} → b ≡ owned_kind (get_or s.bytes p 0) → b ≡ false → is_class_fault s p ≡ false
   unfolding is_class_fault kind
-  not-owned b k = going_on this (rw (owned-kind s p ∙ sym b ∙ k)) refl
+  not-owned b k = rw (owned-kind s p ∙ sym b ∙ k)
 
   -- one with an owner
   module _ {b : Bool} (q : b ≡ owned_kind (get_or s.bytes p 0)) (is : b ≡ true) where
@@ -66,11 +81,11 @@ module _ {s : Recipe} {t : List ℕ} (A : Aimed s t) {p : ℕ} (g : Going s (is_
     aim-is e = e ∙ A.targets p this.place (or_left (is_mark s p) (is_port s p) is-mark) x the-target.1
 
     -- both class bytes are in the recipe
-    pub own-low : {o : ℕ} → o ≡ get_or t (p + 3) 0 → (o + 1 + s.width < length s.bytes) × (length s.bytes ≤ 16384)
-    own-low e = (rw (own_is e) (class_low s (owner_of s p) owner-held.placed owner-held.passes), c₀.short)
+    pub own-low : {o : ℕ} → o ≡ get_or t (p + 3) 0 → o + 1 + s.width < length s.bytes
+    own-low e = rw (own_is e) (class_low s (owner_of s p) owner-held.placed owner-held.passes)
 
-    pub aim-low : {o : ℕ} → o ≡ get_or t (p + 10) 0 → (o + 1 + s.width < length s.bytes) × (length s.bytes ≤ 16384)
-    aim-low e = (rw (aim-is e) (class_low s x.place target-element.placed target-element.passes), c₀.short)
+    pub aim-low : {o : ℕ} → o ≡ get_or t (p + 10) 0 → o + 1 + s.width < length s.bytes
+    aim-low e = rw (aim-is e) (class_low s x.place target-element.placed target-element.passes)
 
     -- and to compare them is the test
     pub misclassed : {o u a b : ℕ} → o ≡ get_or t (p + 3) 0 → u ≡ get_or t (p + 10) 0 → a ≡ get_or s.bytes (o + 1 + s.width) 0 → b ≡ get_or s.bytes (u + 1 + s.width) 0

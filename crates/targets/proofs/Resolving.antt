@@ -14,11 +14,11 @@ use Rattle.names.specs.Lists.{In, same}
 use Rattle.names.specs.Names.{is_blank, text}
 use Rattle.names.proofs.Lists.{in-keep, none_first, some_first}
 use Rattle.names.proofs.Tests.{is-some, and_left, by_cases, by-option, is_some-map, not-both, or-none-left, or_right}
-use Rattle.recipe.specs.Definitions.{element_named, elements, holder, model_of, named, port_named, ports, records_of, submodel_named, submodels, named_by, submodel_of}
+use Rattle.recipe.specs.Definitions.{holder, model_of, named, records_of, submodel_named, submodels, named_by, submodel_of}
 use Rattle.recipe.specs.Reading.{fault₅, is_port_fault, is_submodel_field_fault, is_undeclared}
 use Rattle.recipe.specs.Records.{Recipe, is_deletion, is_element, is_mark, is_model, is_pointer, is_port, is_replaced_by, is_replacement, is_submodel, kind, name, places, submodel_field, target_field, way}
 use Rattle.recipe.proofs.Bodies.{by-pointer, pointer-kind}
-use Rattle.recipe.proofs.Definitions.{in-records, in-submodels}
+use Rattle.recipe.proofs.Definitions.{Held, element-named, in-elements, in-ports, in-submodels, port-named}
 use Rattle.recipe.proofs.Reading.{first-model, readable}
 use Rattle.shadow.specs.Columns.{Linked, Measured, order}
 use Rattle.shadow.specs.Shadow.{Shadowed}
@@ -60,44 +60,19 @@ module _ (s : Recipe) where
       let m : is_model s 0 ≡ false = rw z at (not-true (is_model s p) (and_left (not (is_model s p)) _ k.1)) in
       not-both (first-model s (rw z at (readable s p k.0))) m
 
-  -- ---- what is named
-  pub record NamedElement (d x : ℕ) : Type 0 where
-    pub place : In x (places s)
-    pub sort : is_element s x ≡ true
-    pub held : holder s x ≡ d
-    pub some-place : x ≡ 0 → ⊥
-
-  pub record NamedPort (d x : ℕ) : Type 0 where
-    pub place : In x (places s)
-    pub sort : is_port s x ≡ true
-    pub held : holder s x ≡ d
-    pub some-place : x ≡ 0 → ⊥
-
-  an-element : (d x : ℕ) (t : List ℕ) → element_named s d t ≡ Some x → NamedElement d x
-  unfolding element_named named elements
-  an-element d x t e =
-      let f = in-keep (is_element s) (records_of s d) x (some_first (λ p. same (name s p) t) (elements s d) x e).0 in
-      let g = in-records s d x f.0 in
-      record { place = g.0; sort = f.1; held = g.1; some-place = not-zero d x f.0 }
-
-  a-port : (d x : ℕ) (t : List ℕ) → port_named s d t ≡ Some x → NamedPort d x
-  unfolding port_named named ports
-  a-port d x t e =
-      let f = in-keep (is_port s) (records_of s d) x (some_first (λ p. same (name s p) t) (ports s d) x e).0 in
-      let g = in-records s d x f.0 in
-      record { place = g.0; sort = f.1; held = g.1; some-place = not-zero d x f.0 }
-
-  named_blank : (r x : ℕ) → is_blank (submodel_field s r) ≡ true → named_by s r ≡ Some x → NamedElement (holder s r) x
+  -- ---- what is named, an element or a port
+  named_blank : (r x : ℕ) → is_blank (submodel_field s r) ≡ true → named_by s r ≡ Some x → Held s (is_element s) (holder s r) x
   unfolding named_by
-  named_blank r x b e = an-element (holder s r) x (text (target_field s r)) (rw b at e)
+  named_blank r x b e = in-elements s (holder s r) x (element-named s (holder s r) (text (target_field s r)) x (rw b at e)).0
 
   named-below : (r x : ℕ) → is_blank (submodel_field s r) ≡ false → named_by s r ≡ Some x
-      → ((eqb (way s r) 0 ≡ true) × NamedElement (model_of s (submodel_of s r)) x) ⊎ ((eqb (way s r) 0 ≡ false) × NamedPort (model_of s (submodel_of s r)) x)
+      → ((eqb (way s r) 0 ≡ true) × Held s (is_element s) (model_of s (submodel_of s r)) x) ⊎ ((eqb (way s r) 0 ≡ false) × Held s (is_port s) (model_of s (submodel_of s r)) x)
   unfolding named_by
   named-below r x b e =
+      let m = model_of s (submodel_of s r) in
       by_cases (eqb (way s r) 0)
-      (λ w. inl (w, an-element (model_of s (submodel_of s r)) x (text (target_field s r)) (rw (b, w) at e)))
-      (λ w. inr (w, a-port (model_of s (submodel_of s r)) x (text (target_field s r)) (rw (b, w) at e)))
+      (λ w. inl (w, in-elements s m x (element-named s m (text (target_field s r)) x (rw (b, w) at e)).0))
+      (λ w. inr (w, in-ports s m x (port-named s m (text (target_field s r)) x (rw (b, w) at e)).0))
 
   -- ---- targets, one record further
   target-blank : (n r : ℕ) → is_blank (submodel_field s r) ≡ true → target_within (suc n) s r ≡ option_map (node []) (named_by s r)
@@ -164,9 +139,9 @@ module _ {s : Recipe} {t : List ℕ} (M : Measured s t) (r : ℕ) (here : In r (
   named-zero : (x : ℕ) → named_by s r ≡ Some x → x ≡ 0 → ⊥
   named-zero x e =
       by_cases (is_blank (submodel_field s r))
-      (λ b. (named_blank s r x b e).some-place)
-      (λ b. ⊎_elim (λ (w : (eqb (way s r) 0 ≡ true) × NamedElement s (model_of s (submodel_of s r)) x). w.1.some-place)
-      (λ (w : (eqb (way s r) 0 ≡ false) × NamedPort s (model_of s (submodel_of s r)) x). w.1.some-place) (named-below s r x b e))
+      (λ b. not-zero s (holder s r) x (named_blank s r x b e).inside)
+      (λ b. ⊎_elim (λ (w : (eqb (way s r) 0 ≡ true) × Held s (is_element s) (model_of s (submodel_of s r)) x). not-zero s _ x w.1.inside)
+      (λ (w : (eqb (way s r) 0 ≡ false) × Held s (is_port s) (model_of s (submodel_of s r)) x). not-zero s _ x w.1.inside) (named-below s r x b e))
 
   next-none : {x : ℕ} → x ≡ get_or t (r + 5) 0 → x ≡ 0 → named_by s r ≡ None
   next-none q z =
@@ -216,9 +191,9 @@ module _ {s : Recipe} {t : List ℕ} (M : Measured s t) (r : ℕ) (here : In r (
     pub named-place : In x (places s)
     named-place =
         by_cases (is_blank (submodel_field s r))
-        (λ b. (named_blank s r x b is-named).place)
-        (λ b. ⊎_elim (λ (w : (eqb (way s r) 0 ≡ true) × NamedElement s (model_of s (submodel_of s r)) x). w.1.place)
-        (λ (w : (eqb (way s r) 0 ≡ false) × NamedPort s (model_of s (submodel_of s r)) x). w.1.place) (named-below s r x b is-named))
+        (λ b. (named_blank s r x b is-named).placed)
+        (λ b. ⊎_elim (λ (w : (eqb (way s r) 0 ≡ true) × Held s (is_element s) (model_of s (submodel_of s r)) x). w.1.placed)
+        (λ (w : (eqb (way s r) 0 ≡ false) × Held s (is_port s) (model_of s (submodel_of s r)) x). w.1.placed) (named-below s r x b is-named))
 
     pub named-row : x + 13 ≤ length t
     named-row = row_room c₀ x named-place
@@ -231,8 +206,8 @@ module _ {s : Recipe} {t : List ℕ} (M : Measured s t) (r : ℕ) (here : In r (
     unfolding is_element kind
     element-kind e = eqb-true (get_or s.bytes x 0) 2 e
 
-    order_is : {d g : ℕ} → NamedElement s d x → g ≡ get_or t (x + 1) 0 → g ≡ order s d x
-    order_is E e = e ∙ L.numbered.orders x E.place E.sort ∙ ap (λ (d : ℕ). order s d x) E.held
+    order_is : {d g : ℕ} → Held s (is_element s) d x → g ≡ get_or t (x + 1) 0 → g ≡ order s d x
+    order_is E e = e ∙ L.numbered.orders x E.placed E.passes ∙ ap (λ (d : ℕ). order s d x) E.held
 
     -- an element: the target
     pub element-keeps : {f g num : ℕ} → get_or s.bytes x 0 ≡ 2 → OffsetOf t r f → g ≡ get_or t (x + 1) 0 → (f + g < 65536 → num ≡ f + g) → Keeps s t r x num
@@ -251,7 +226,7 @@ module _ {s : Recipe} {t : List ℕ} (M : Measured s t) (r : ℕ) (here : In r (
         (λ b.
         let m = submodel_of s r in
         ⊎_elim
-        (λ (w : (eqb (way s r) 0 ≡ true) × NamedElement s (model_of s m) x).
+        (λ (w : (eqb (way s r) 0 ≡ true) × Held s (is_element s) (model_of s m) x).
         let v : OffsetsKnown s t (holder s r) → number_in s (holder s r) (through m (node [] x)) ≡ f + g = λ kn.
         omega (arith, number-through s (holder s r) m (node [] x), number-own s (model_of s m) x, order_is w.1 e, offset-is o b kn) in record {
           node = through m (node [] x);
@@ -259,7 +234,7 @@ module _ {s : Recipe} {t : List ℕ} (M : Measured s t) (r : ℕ) (here : In r (
           at = refl;
           counts = λ kn l. a (omega (arith, v kn)) ∙ sym (v kn);
         })
-        (λ (w : (eqb (way s r) 0 ≡ false) × NamedPort s (model_of s m) x). absurd (element-not-port k w.1.sort))
+        (λ (w : (eqb (way s r) 0 ≡ false) × Held s (is_port s) (model_of s m) x). absurd (element-not-port k w.1.passes))
         (named-below s r x b is-named))
 
     -- a further port, of the model of the submodel that is named
@@ -267,21 +242,21 @@ module _ {s : Recipe} {t : List ℕ} (M : Measured s t) (r : ℕ) (here : In r (
       filled : is_blank (submodel_field s r) ≡ false
       filled =
           by_cases (is_blank (submodel_field s r))
-          (λ b. absurd (k (element-kind (named_blank s r x b is-named).sort)))
+          (λ b. absurd (k (element-kind (named_blank s r x b is-named).passes)))
           (λ b. b)
 
       abbrev m : ℕ
       m = submodel_of s r
 
-      port : (eqb (way s r) 0 ≡ false) × NamedPort s (model_of s m) x
+      port : (eqb (way s r) 0 ≡ false) × Held s (is_port s) (model_of s m) x
       port =
           ⊎_elim
-          (λ (w : (eqb (way s r) 0 ≡ true) × NamedElement s (model_of s m) x). absurd (k (element-kind w.1.sort)))
-          (λ (w : (eqb (way s r) 0 ≡ false) × NamedPort s (model_of s m) x). w)
+          (λ (w : (eqb (way s r) 0 ≡ true) × Held s (is_element s) (model_of s m) x). absurd (k (element-kind w.1.passes)))
+          (λ (w : (eqb (way s r) 0 ≡ false) × Held s (is_port s) (model_of s m) x). w)
           (named-below s r x filled is-named)
 
       pub port-sort : is_pointer s x ≡ true
-      port-sort = or_right (is_mark s x) (is_port s x) port.1.sort
+      port-sort = or_right (is_mark s x) (is_port s x) port.1.passes
 
       -- its definition is lower
       pub port-lower : get_or t (holder s x + 6) 0 < get_or t (holder s r + 6) 0

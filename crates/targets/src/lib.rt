@@ -1,43 +1,61 @@
 // The targets of ports and marks, found through ports; the refusals 8 and 10.
-// For the floors above: first_untargeted, of the recipe s and the shadow t; Tree, what there is where no row up to 8 applies; first_misclassed.
+// For the floors above: first_untargeted and first_misclassed, of the recipe s and the shadow t; Tree, what there is where no row up to 8 applies, and Aims, the same without the instances.
 #![tactic(auto)]
 
-ghost use Rattle.std.specs.Prelude.{◌≡◌, true, [], ◌∷◌, ◌+◌, ◌≤◌, ◌<◌, length, get_or, set};
+ghost use Rattle.std.specs.Prelude.{◌≡◌, true, [], ◌∷◌, ◌+◌, ◌≤◌, ◌<◌, None, length, get_or, set};
 ghost use Rattle.recipe.specs.Records.{recipe};
 ghost use Rattle.shadow.specs.Shadow.{Kept};
 ghost use Rattle.shadow.specs.Columns.{Measured};
-ghost use Rattle.tree.specs.Faults.{fault₈, fault₁₀};
-ghost use Rattle.tree.specs.Tree.{tree_elements};
-ghost use Rattle.targets.specs.Targeted.{Aimed, Targeted};
+ghost use Rattle.std.proofs.Props.{props};
+ghost use Rattle.tree.specs.Faults.{fault₇, fault₈, fault₁₀};
+ghost use Rattle.targets.specs.Targeted.{Aimed, TreeRequires};
 ghost use Rattle.targets.specs.Resolve.{OffsetOf, ResolveRequires, Resolved, TargetNumbers};
 
 use recipe::{Kind, Records, Source};
 use shadow::{cell, set_cell};
-use tree::{InstancesOf, Size};
+use tree::InstancesOf;
 
 // The greatest number of a cell.
 const MOST_NUMBER: usize = 65535;
 
-// The tree of a recipe that rows 1 to 8 let pass: the recipe, its shadow, the rows of its instances, and how many instances and elements there are.
+// The tree of a recipe that rows 1 to 8 let pass: the recipe, its shadow, and the rows of its instances.
 #[derive(Clone, Copy)]
 pub struct Tree<'a> {
     pub source: &'a Source<'a>,
     pub shadow: &'a [u16],
     pub instances: &'a [u16],
-    pub size: Size,
-    pub ghost targeted: { Targeted (recipe source.now) shadow.now instances.now size.insts },
-    pub ghost counted: { size.elems ≡ length (tree_elements (recipe source.now)) },
+    pub ghost targeted: { TreeRequires (recipe source.now) shadow.now instances.now },
+}
+
+// What these rows leave of a recipe in its shadow alone, for who looks at no row of an instance.
+#[derive(Clone, Copy)]
+pub struct Aims<'a> {
+    pub source: &'a Source<'a>,
+    pub shadow: &'a [u16],
+    pub ghost aimed: { Aimed (recipe source.now) shadow.now },
+    pub ghost fits: { fault₇ (recipe source.now) ≡ None } by { Prim.hlevel props },
 }
 
 impl<'a> Tree<'a> {
     ghost use Rattle.names.specs.Lists.{In};
     ghost use Rattle.recipe.specs.Records.{places};
+    ghost use Rattle.tree.specs.Steps.{next_of};
     ghost use Rattle.targets.specs.Trees.{recipe_of};
+
+    // The tree without its instances.
+    pub fn aims(&self) -> Aims<'a>
+        ensures { (recipe result.source.now ≡ recipe_of self.now) × (result.shadow.now ≡ self.now.shadow.now) }
+    {
+        Aims {
+            source: self.source,
+            shadow: self.shadow,
+        }
+    }
 
     // The instances of the definition that the record at p stands in.
     pub fn instances_of(&self, p: usize) -> InstancesOf<'a>
         requires { In p (places (recipe_of self.now)) }
-        ensures { (result.rows.now ≡ self.now.instances.now) × (result.next ≡ get_or self.now.shadow.now (get_or self.now.shadow.now (p + 0) 0 + 8) 0) }
+        ensures { (result.rows.now ≡ self.now.instances.now) × (result.next ≡ next_of (get_or self.now.shadow.now (get_or self.now.shadow.now (p + 0) 0 + 8) 0)) }
     {
         InstancesOf::record(self.shadow, self.instances, p)
     }
@@ -121,23 +139,15 @@ pub fn first_untargeted(s: &Source, t: &mut [u16]) -> Option<usize>
     None
 }
 
-// The class of the element at e.
-fn class_of(s: &Source, e: usize) -> u8
-    requires { (e + 1 + s.now.width < length s.now.bytes.now) × (length s.now.bytes.now ≤ 16384) }
-    ensures { result ≡ get_or s.now.bytes.now (e + 1 + s.now.width) 0 }
-{
-    s.bytes[e + 1 + s.width]
-}
-
 // Row 10: the first mark whose owner's and target's class differ.
-pub fn first_misclassed(tree: &Tree) -> Option<usize>
-    ensures { result ≡ fault₁₀ (recipe tree.now.source.now) }
+pub fn first_misclassed(s: &Source, t: &[u16]) -> Option<usize>
+    requires { Aimed (recipe s.now) t.now }
+    ensures { result ≡ fault₁₀ (recipe s.now) }
 {
-    let s = tree.source;
     for p in Records::of(s) {
         if recipe::is_owned(s.bytes[p]) {
-            let a = class_of(s, cell(tree.shadow, p, shadow::OWNER));
-            let b = class_of(s, cell(tree.shadow, p, shadow::TARGET));
+            let a = s.class_at(cell(t, p, shadow::OWNER));
+            let b = s.class_at(cell(t, p, shadow::TARGET));
             if a != b {
                 return Some(p);
             }

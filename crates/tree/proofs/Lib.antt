@@ -10,4 +10,5 @@ pub mod Trees
 pub mod Threads
 pub mod FromMain
 pub mod ByRecord
+pub mod Nexts
 pub mod Steps

@@ -1,13 +1,14 @@
 // The tree of a recipe: its instances, and the refusal 7.
-// For the floors above: plant, the columns of an instance's row, and InstancesOf, the instances of one definition. They take the recipe s, the shadow t and, for the rows of the instances, inst.
+// For the floors above: plant, the columns of an instance's row, numbered and set_numbered, and InstancesOf, the instances of one definition. They take the recipe s, the shadow t and, for the rows of the instances, inst.
 #![tactic(auto)]
 
-ghost use Rattle.std.specs.Prelude.{◌≡◌, not, is_some, IfSome, [], ◌∷◌, ◌*◌, ◌+◌, ◌≤◌, ◌<◌, length, get_or};
+ghost use Rattle.std.specs.Prelude.{◌≡◌, not, is_some, IfSome, [], ◌∷◌, ◌*◌, ◌+◌, ◌≤◌, ◌<◌, length, set, get_or};
 ghost use Rattle.std.proofs.lemmas.List.Edits.{sets};
 ghost use Rattle.recipe.specs.Records.{recipe};
 ghost use Rattle.shadow.specs.Columns.{Measured};
 ghost use Rattle.tree.specs.Faults.{is_too_large};
 ghost use Rattle.tree.specs.Tree.{tree_elements};
+ghost use Rattle.tree.specs.Steps.{cell_of, next_of};
 ghost use Rattle.tree.specs.Walk.{over, WalkRequires, Grown, WalkKeeps};
 ghost use Rattle.tree.specs.Planted.{Planted, ThreadRequires, Threaded};
 
@@ -15,7 +16,7 @@ use recipe::Source;
 use shadow::{SubmodelsOf, cell, set_cell};
 
 // The columns of an instance's row.
-pub const DEFINITION: usize = 0;
+const DEFINITION: usize = 0;
 
 pub const DEPTH: usize = 1;
 
@@ -25,7 +26,7 @@ pub const SUBMODEL_RECORD: usize = 3;
 
 pub const AROUND: usize = 4;
 
-pub const NEXT_SAME: usize = 5;
+const NEXT_SAME: usize = 5;
 
 // Row 7's limits.
 const MOST_DEPTH: usize = 4;
@@ -41,12 +42,27 @@ pub struct Size {
     pub elems: usize,
 }
 
+// The number that cell k of the row at p has, where one more than it is kept; none by 0.
+pub fn numbered(t: &[u16], p: usize, k: usize) -> Option<usize>
+    requires { p + k < length t.now }
+    ensures { result ≡ next_of (get_or t.now (p + k) 0) }
+{
+    cell(t, p, k).checked_sub(1)
+}
+
+// Writes into cell k of the row at p one more than the number, or 0 for none.
+pub fn set_numbered(t: &mut [u16], p: usize, k: usize, to: Option<usize>)
+    requires { (p + k < length t.old) × (cell_of to < 65536) }
+    ensures { t.new ≡ set t.old (p + k) (cell_of to) }
+{
+    set_cell(t, p, k, to.map_or(0, |x| x + 1));
+}
+
 // The instances of one definition, in tree order, along their thread: the number of each one's row.
 #[derive(Clone, Copy)]
 pub struct InstancesOf<'a> {
     pub rows: &'a [u16],
-    // One more than the number of the next one, or 0 behind the last.
-    pub next: usize,
+    pub next: Option<usize>,
 }
 
 impl<'a> Iterator for InstancesOf<'a> {
@@ -61,8 +77,8 @@ impl<'a> Iterator for InstancesOf<'a> {
     ghost remaining = { instances_left };
 
     fn next(&mut self) -> Option<usize> {
-        let i = self.next.checked_sub(1)?;
-        self.next = cell(self.rows, 6 * i, NEXT_SAME);
+        let i = self.next?;
+        self.next = numbered(self.rows, 6 * i, NEXT_SAME);
         Some(i)
     }
 }
@@ -71,12 +87,12 @@ impl<'a> InstancesOf<'a> {
     // Those of the definition that the record at p stands in, from the first on.
     pub fn record(t: &[u16], inst: &'a [u16], p: usize) -> InstancesOf<'a>
         requires { (p < length t.now) × (get_or t.now (p + 0) 0 + 8 < length t.now) }
-        ensures { (result.rows.now ≡ inst.now) × (result.next ≡ get_or t.now (get_or t.now (p + 0) 0 + 8) 0) }
+        ensures { (result.rows.now ≡ inst.now) × (result.next ≡ next_of (get_or t.now (get_or t.now (p + 0) 0 + 8) 0)) }
     {
         let d = cell(t, p, shadow::DEFINITION_OF);
         InstancesOf {
             rows: inst,
-            next: cell(t, d, shadow::FIRST_INSTANCE),
+            next: numbered(t, d, shadow::FIRST_INSTANCE),
         }
     }
 }
@@ -91,7 +107,7 @@ fn put_row(inst: &mut [u16], i: usize, d: usize, depth: usize, e: usize, sub: us
     set_cell(inst, 6 * i, FIRST_ELEMENT, e);
     set_cell(inst, 6 * i, SUBMODEL_RECORD, sub);
     set_cell(inst, 6 * i, AROUND, around);
-    set_cell(inst, 6 * i, NEXT_SAME, 0);
+    set_numbered(inst, 6 * i, NEXT_SAME, None);
 }
 
 // The tree below the instance of row i, which is written, unless it does not fit: the rows behind it, its elements numbered from e on, and the offsets of its submodels; `left` deep at most.
@@ -133,7 +149,7 @@ fn thread_instances(s: &Source, t: &mut [u16], inst: &mut [u16], n: usize)
         let d = cell(inst, 6 * i, DEFINITION);
         let next = cell(t, d, shadow::FIRST_INSTANCE);
         set_cell(inst, 6 * i, NEXT_SAME, next);
-        set_cell(t, d, shadow::FIRST_INSTANCE, i + 1);
+        set_numbered(t, d, shadow::FIRST_INSTANCE, Some(i));
     }
 }
 

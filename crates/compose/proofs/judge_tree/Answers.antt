@@ -13,7 +13,7 @@ use Rattle.compose.proofs.Judging.{is-planted, not-planted}
 use Rattle.compose.proofs.judge_tree.Goals as goal
 
 pub plant-requires : goal.plant-requires
-plant-requires c = (c.requires.0, (c.requires.1.0, omega (arith, c.requires.1.1.insts)))
+plant-requires c = (c.requires.0, (c.requires.1, omega (arith, c.args.rooms.room_instances)))
 
 pub returns-in_err-size : goal.returns-in_err-size
 returns-in_err-size c =
@@ -41,10 +41,12 @@ invariant_of-tree c =
     let g = MatchOption-at_some _ _ _ k.0 c.plant.ensures.1.0 in
     let u = c.first_untargeted.ensures.1 in
     let v = u.0 (c.first_untargeted.ensures.0 ∙ a) in
-    record { targeted = targeted g.0 u.1 v.0 v.1; counted = g.1 }
+    record { targeted = targeted (rw g.0.rows.count at g.0) u.1 v.0 v.1 }
 
 pub judge_marks-requires : goal.judge_marks-requires
-judge_marks-requires c = omega (arith, c.requires.1.1.elems)
+judge_marks-requires c =
+    let k = is-planted (recipe c.args.s.now) _ c.plant.ensures.0 (sym c.ok_or.ensures.value ∙ c.in_ok-size.was) in
+    ((MatchOption-at_some _ _ _ k.0 c.plant.ensures.1.0).1, omega (arith, c.args.rooms.room_elements))
 
 pub returns-in_err-judge_marks : goal.returns-in_err-judge_marks
 returns-in_err-judge_marks c =

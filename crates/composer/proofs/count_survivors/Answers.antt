@@ -10,9 +10,9 @@ use Rattle.composer.proofs.count_survivors.Goals as goal
 
 pub count-requires-clause-fits : goal.count-requires-clause-fits
 count-requires-clause-fits c =
-    inl (omega (arith, ap length c.of.ensures.1, surviving-few c.args.c.now.elements.now 0 c.args.c.now.tree.size.elems, fates-few c.args.c.now.composed))
+    inl (omega (arith, ap length c.of.ensures, surviving-few c.args.f.now.elements.now 0 c.args.f.now.elems, fates-few c.args.f.now.fated))
 
 pub returns : goal.returns
 returns c =
     let r = c.count.ensures.ran in
-    r.2 ∙ all-come survivors_left r.0 c.of.result _ r.1.0 r.1.1.1 r.1.1.2 ∙ ap length c.of.ensures.1 ∙ survivors-counted c.args.c.now.composed
+    r.2 ∙ all-come survivors_left r.0 c.of.result _ r.1.0 r.1.1.1 r.1.1.2 ∙ ap length c.of.ensures ∙ survivors-counted c.args.f.now.fated

@@ -6,4 +6,4 @@ use Rattle.composer.proofs.Room.{Flattening}
 use Rattle.composer.proofs.write_table.Given as goal
 
 abbrev pub invariant-loop-e : goal.invariant-loop-e
-invariant-loop-e l = Flattening (recipe l.c.tree.source.now) l.c.elements.now l.c.tree.size.elems l.initial.out l.out (survivors_left l.e-iterator) l.p
+invariant-loop-e l = Flattening (recipe l.from.fates.source.now) l.from.fates.elements.now l.from.fates.elems l.initial.out l.out (survivors_left l.e-iterator) l.p

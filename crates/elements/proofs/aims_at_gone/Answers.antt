@@ -5,8 +5,8 @@ use mathlib.Core.Path.{◌∙◌, sym}
 use Rattle.recipe.specs.Records.{is_replaced_by, recipe}
 use Rattle.marks.proofs.Turn.{record-room}
 use Rattle.marks.specs.Faults.{aims_at_gone}
-use Rattle.elements.proofs.Following.{follows-fits, follows-holds, seeks-first, seeks-last, seeks-on}
-use Rattle.elements.proofs.Lost.{lost, lost-few, lost-hit, lost-is}
+use Rattle.marks.proofs.Following.{follows-fits, follows-holds, seeks-first, seeks-hit, seeks-last, seeks-on}
+use Rattle.elements.proofs.Lost.{lost, lost-few, lost-is, no-model}
 use Rattle.elements.proofs.aims_at_gone.Goals as goal
 
 pub cell-e-requires : goal.cell-e-requires
@@ -26,10 +26,12 @@ is_gone-requires c =
     omega (arith, lost-few c.args.tree.now.targeted c.args.p c.requires.0 c.requires.1.0 c.in-Some.i h c.cell-e.ensures.0 c.cell-f.ensures.0, c.requires.1.1.1)
 
 pub returns-then-is_gone : goal.returns-then-is_gone
+unfolding aims_at_gone
 returns-then-is_gone c =
     let T = c.args.tree.now.targeted in
+    let s = recipe c.args.tree.now.source.now in
     let h = follows-holds T c.args.p c.requires.0 c.loop-i.invariant c.in-Some.ensures.steps in
-    lost-hit T c.args.p c.requires.0 c.requires.1.0 c.in-Some.i h c.cell-e.ensures.0 c.cell-f.ensures.0 c.args.el.now c.requires.1.1.0 c.is_gone.ensures c.if-is_gone.true
+    sym (seeks-hit T c.args.p c.requires.0 (is_replaced_by s) (lost s) c.in-Some.i (no-model T c.args.p c.requires.0 c.requires.1.0) c.requires.1.0 c.loop-i.invariant c.in-Some.ensures.steps (lost-is T c.args.p c.requires.0 c.requires.1.0 c.in-Some.i h c.cell-e.ensures.0 c.cell-f.ensures.0 c.args.el.now c.requires.1.1.0 c.is_gone.ensures ∙ c.if-is_gone.true))
 
 pub loop-i-preserved : goal.loop-i-preserved
 loop-i-preserved c =

@@ -1,7 +1,7 @@
 -- `elements::aims_at_gone` meets its contract: no instance before the next one has a target that is gone.
 -- Assumes nothing.
 use Rattle.recipe.specs.Records.{is_replaced_by, recipe}
-use Rattle.elements.proofs.Following.{Seeks}
+use Rattle.marks.proofs.Following.{Seeks}
 use Rattle.elements.proofs.Lost.{lost}
 use Rattle.elements.proofs.aims_at_gone.Given as goal
 

@@ -4,7 +4,7 @@ use native.Mathlib.Omega.{arith}
 use Rattle.recipe.specs.Records.{is_element, recipe}
 use Rattle.recipe.proofs.Reading.{place-low}
 use Rattle.marks.proofs.Turn.{record-room}
-use Rattle.elements.proofs.Following.{follow-first, follow-last, follows-fits, follows-holds}
+use Rattle.marks.proofs.Following.{follow-first, follow-last, follows-fits, follows-holds}
 use Rattle.elements.proofs.Listing.{list-turn, listed_same, this-few}
 use Rattle.elements.proofs.elements_at.Goals as goal
 

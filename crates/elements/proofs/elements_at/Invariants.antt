@@ -2,7 +2,7 @@
 -- Assumes nothing.
 use Rattle.recipe.specs.Records.{recipe}
 use Rattle.elements.specs.Listing.{Listed}
-use Rattle.elements.proofs.Following.{Following}
+use Rattle.marks.proofs.Following.{Following}
 use Rattle.elements.proofs.elements_at.Given as goal
 
 abbrev pub invariant-loop-i : goal.invariant-loop-i

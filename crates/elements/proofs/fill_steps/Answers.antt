@@ -1,11 +1,11 @@
 -- `elements::fill_steps` meets its contract: the steps of the records before the next one are in the table.
 -- Assumes nothing.
-use mathlib.Core.Path.{◌∙◌, sym}
+use mathlib.Core.Path.{◌∙◌, refl, sym}
 use native.Mathlib.Omega.{arith}
 use Rattle.recipe.specs.Records.{is_owned, kind, recipe}
 use Rattle.recipe.proofs.Bodies.{owned-kind}
 use Rattle.elements.proofs.Elements.{only_same, only_then}
-use Rattle.elements.proofs.Passing.{passing-end, passing-on, passing-place, passing-said, passing-skip, passing-start}
+use Rattle.marks.proofs.Passing.{passing-end, passing-on, passing-place, passing-said, passing-skip, passing-start}
 use Rattle.elements.proofs.StepTable.{went-all, went-none, went-same}
 use Rattle.elements.proofs.fill_steps.Goals as goal
 
@@ -24,14 +24,14 @@ steps_at-requires c =
 
 pub loop-p-preserved-then-is_owned : goal.loop-p-preserved-then-is_owned
 loop-p-preserved-then-is_owned c =
-    (passing-on c.args.tree.now.targeted c.loop-p.invariant.0 c.in-Some.ensures.steps c.steps_at.ensures.0, only_then c.loop-p.invariant.1 c.steps_at.ensures.1)
+    (passing-on c.args.tree.now.targeted c.loop-p.invariant.0 c.in-Some.ensures.steps refl c.steps_at.ensures.0, only_then c.loop-p.invariant.1 c.steps_at.ensures.1)
 
 pub loop-p-preserved : goal.loop-p-preserved
 unfolding kind
 loop-p-preserved c =
     let s = recipe c.args.tree.now.source.now in
     let other = owned-kind s c.in-Some.p ∙ (sym c.is_owned.ensures ∙ c.if-is_owned.false) in
-    (passing-skip c.args.tree.now.targeted c.loop-p.invariant.0 c.in-Some.ensures.steps (is_owned s) (went-same s c.loop-p.el) other, c.loop-p.invariant.1)
+    (passing-skip c.args.tree.now.targeted c.loop-p.invariant.0 c.in-Some.ensures.steps (is_owned s) (went-same s c.loop-p.el) refl other, c.loop-p.invariant.1)
 
 pub returns : goal.returns
 returns c =

@@ -4,7 +4,7 @@ use mathlib.Core.Path.{◌∙◌, sym}
 use Rattle.recipe.specs.Records.{is_replaced_by, kind, recipe}
 use Rattle.marks.specs.Faults.{fault₁₁}
 use Rattle.elements.proofs.Lost.{not-lost}
-use Rattle.elements.proofs.Passing.{seeking-end, seeking-hit, seeking-on, seeking-place, seeking-start}
+use Rattle.marks.proofs.Passing.{seeking-end, seeking-hit, seeking-on, seeking-place, seeking-start}
 use Rattle.elements.proofs.first_lost.Goals.{else-is_replaced_by-via-then-is_replaced_by+else-aims_at_gone, else-is_replaced_by-via-else-is_replaced_by}
 use Rattle.elements.proofs.first_lost.Goals as goal
 

@@ -2,7 +2,7 @@
 -- Assumes nothing.
 use Rattle.recipe.specs.Records.{recipe}
 use Rattle.marks.specs.Faults.{aims_at_gone}
-use Rattle.elements.proofs.Passing.{Seeking}
+use Rattle.marks.proofs.Passing.{Seeking}
 use Rattle.elements.proofs.first_lost.Given as goal
 
 abbrev pub invariant-loop-p : goal.invariant-loop-p

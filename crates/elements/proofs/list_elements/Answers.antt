@@ -2,9 +2,10 @@
 -- Assumes nothing.
 use native.Mathlib.Omega.{arith}
 use borrow.Author.Tests.{eq-eqb, ne_eqb}
+use mathlib.Core.Path.{refl}
 use Rattle.recipe.specs.Records.{is_element, kind, recipe}
 use Rattle.elements.proofs.Listing.{listed-none, listed_same}
-use Rattle.elements.proofs.Passing.{passing-end, passing-on, passing-place, passing-said, passing-skip, passing-start}
+use Rattle.marks.proofs.Passing.{passing-end, passing-on, passing-place, passing-said, passing-skip, passing-start}
 use Rattle.elements.proofs.list_elements.Goals as goal
 
 pub loop-p-init : goal.loop-p-init
@@ -19,13 +20,13 @@ elements_at-requires c =
 
 pub loop-p-preserved-then-tree-p : goal.loop-p-preserved-then-tree-p
 loop-p-preserved-then-tree-p c =
-    passing-on c.args.tree.now.targeted c.loop-p.invariant c.in-Some.ensures.steps c.elements_at.ensures.0
+    passing-on c.args.tree.now.targeted c.loop-p.invariant c.in-Some.ensures.steps refl c.elements_at.ensures.0
 
 pub loop-p-preserved : goal.loop-p-preserved
 unfolding is_element kind
 loop-p-preserved c =
     let s = recipe c.args.tree.now.source.now in
-    passing-skip c.args.tree.now.targeted c.loop-p.invariant c.in-Some.ensures.steps (is_element s) (listed_same s c.loop-p.el) (ne_eqb _ 2 c.if-tree-p.false)
+    passing-skip c.args.tree.now.targeted c.loop-p.invariant c.in-Some.ensures.steps (is_element s) (listed_same s c.loop-p.el) refl (ne_eqb _ 2 c.if-tree-p.false)
 
 pub returns : goal.returns
 returns c =

@@ -7,13 +7,14 @@ use Rattle.elements.proofs.mark_gone.Goals as goal
 
 pub goes-gone-requires : goal.goes-gone-requires
 goes-gone-requires c =
-    let s = recipe c.args.tree.now.source.now in
-    let rows = rows-over s c.loop-e.invariant.0 (omega arith) c.requires.1.1 in
-    let e = element-at s c.args.tree.now.targeted.planted.row₇ c.loop-e.e (omega (arith, c.loop-e-test.true, c.args.tree.now.counted)) in
-    (c.requires.0, (c.requires.1.0, row-element c.args.tree.now.targeted.planted.row₇ rows e c.cell-q.ensures.0))
+    let s = recipe c.args.aims.now.source.now in
+    let h₇ = c.args.aims.now.fits in
+    let rows = rows-over s c.loop-e.invariant.0 (omega arith) c.requires.1.0 in
+    let e = element-at s h₇ c.loop-e.e (omega (arith, c.loop-e-test.true, c.requires.1.1)) in
+    (c.requires.0, row-element h₇ rows e c.cell-q.ensures.0)
 
 pub returns : goal.returns
 returns c = (
-  λ x i. c.loop-e.invariant.1 x i (omega (arith, number-low (recipe c.args.tree.now.source.now) c.args.tree.now.targeted.planted.row₇ x i, c.args.tree.now.counted, c.loop-e-test.false)),
+  λ x i. c.loop-e.invariant.1 x i (omega (arith, number-low (recipe c.args.aims.now.source.now) c.args.aims.now.fits x i, c.requires.1.1, c.loop-e-test.false)),
   c.loop-e.invariant.0,
 )

@@ -10,5 +10,5 @@ use Rattle.elements.proofs.mark_gone.Given as goal
 
 abbrev pub invariant-loop-e : goal.invariant-loop-e
 invariant-loop-e l =
-    let s = recipe l.tree.source.now in
+    let s = recipe l.aims.source.now in
     Only 2 l.initial.el l.el × ColumnFilled s (tree_elements s) 2 (λ x. cond (is_gone s x) 1 0) l.e l.el

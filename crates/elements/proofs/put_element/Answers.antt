@@ -5,4 +5,4 @@ use Rattle.elements.proofs.put_element.Goals as goal
 
 pub returns : goal.returns
 returns c =
-    c.set_cell-3.ensures ∙ rw (c.set_cell-2.ensures, c.set_cell.ensures)
+    c.set_numbered.ensures ∙ rw (c.set_cell-2.ensures, c.set_cell.ensures)

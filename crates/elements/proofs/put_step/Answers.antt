@@ -5,8 +5,8 @@ use Rattle.elements.proofs.put_step.Goals as goal
 
 pub returns-then-is_replaced_by : goal.returns-then-is_replaced_by
 returns-then-is_replaced_by c =
-    rw (sym c.is_replaced_by.ensures ∙ c.if-is_replaced_by.true) c.set_cell.ensures
+    rw (sym c.is_replaced_by.ensures ∙ c.if-is_replaced_by.true) c.set_numbered.ensures
 
 pub returns : goal.returns
 returns c =
-    rw (sym c.is_replaced_by.ensures ∙ c.if-is_replaced_by.false) c.set_cell-2.ensures
+    rw (sym c.is_replaced_by.ensures ∙ c.if-is_replaced_by.false) c.set_numbered-2.ensures

@@ -5,7 +5,7 @@ use Rattle.recipe.specs.Records.{is_owned, recipe}
 use Rattle.recipe.proofs.Reading.{place-low}
 use Rattle.marks.proofs.Turn.{owner-asks, record-room}
 use Rattle.elements.proofs.Elements.{only_same}
-use Rattle.elements.proofs.Following.{follow-first, follow-last, follows-fits}
+use Rattle.marks.proofs.Following.{follow-first, follow-last, follows-fits}
 use Rattle.elements.proofs.StepTable.{step_fits, step-read, step-turn, stepped-only, went-same}
 use Rattle.elements.proofs.steps_at.Goals as goal
 

@@ -3,7 +3,7 @@
 use Rattle.recipe.specs.Records.{recipe}
 use Rattle.elements.specs.Listing.{Only}
 use Rattle.elements.specs.Steps.{Went}
-use Rattle.elements.proofs.Following.{Following}
+use Rattle.marks.proofs.Following.{Following}
 use Rattle.elements.proofs.steps_at.Given as goal
 
 abbrev pub invariant-loop-i : goal.invariant-loop-i

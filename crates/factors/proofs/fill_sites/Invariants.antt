@@ -6,4 +6,4 @@ use Rattle.factors.specs.Sites.{SitesTo}
 use Rattle.factors.proofs.fill_sites.Given as goal
 
 abbrev pub invariant-loop-i : goal.invariant-loop-i
-invariant-loop-i l = (l.i ≤ l.c.tree.size.insts) × SitesTo (recipe l.c.tree.source.now) l.sites l.i
+invariant-loop-i l = (l.i ≤ l.c.size.insts) × SitesTo (recipe l.c.tree.source.now) l.sites l.i

@@ -6,4 +6,4 @@ use lib.ListN.{get_or}
 use Rattle.flat_names.proofs.count_underscores.Given as goal
 
 abbrev pub invariant-loop-b : goal.invariant-loop-b
-invariant-loop-b l = (l.k ≡ l.b-index) × ((j : ℕ) → j < l.k → get_or l.b-items j 0 ≡ 95)
+invariant-loop-b l = (l.k ≡ l.b-index) × ((j : ℕ) → j < l.k → get_or l.f j 0 ≡ 95)

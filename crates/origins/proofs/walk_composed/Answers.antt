@@ -9,9 +9,8 @@ pub returns-then-name-f : goal.returns-then-name-f
 returns-then-name-f c =
     other_length c.args.c.now.composed c.args.name.now c.field_width-f.ensures (λ q. omega (arith, c.if-name-f.true))
 
-pub find_origin-requires : goal.find_origin-requires
-find_origin-requires c =
-    record { long = c.if-name-f.false ∙ c.field_width-f.ensures; fits = c.fit_prefixes.ensures }
+pub invariant_of-sought : goal.invariant_of-sought
+invariant_of-sought c = record { long = c.if-name-f.false ∙ c.field_width-f.ensures }
 
 pub origin_at-requires : goal.origin_at-requires
 origin_at-requires c =

@@ -1,6 +1,6 @@
 -- `recipe::first_unformed` meets its contract: what is left to scan from the next record on.
 -- Assumes nothing.
-use mathlib.Core.Path.{sym, ◌∙◌, refl}
+use mathlib.Core.Path.{sym, ◌∙◌}
 use Rattle.recipe.specs.Records.{kind, next, recipe}
 use Rattle.recipe.proofs.Going.{going_end, going-hit, going_more, going_start, here}
 use Rattle.recipe.proofs.Fields.{fault-3, read-form, refused-form}

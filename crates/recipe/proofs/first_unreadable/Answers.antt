@@ -1,9 +1,9 @@
--- `recipe::first_unreadable` meets its contract: by where reading stops.
+-- `recipe::first_unreadable` meets its contract: the search stops where reading stops.
 -- Assumes nothing.
 use Rattle.std.proofs.Common.{rules}
-use Rattle.recipe.specs.Reading.{fault₂}
+use Rattle.recipe.specs.Records.{recipe}
+use Rattle.recipe.proofs.Unread.{unread-first}
 use Rattle.recipe.proofs.first_unreadable.Goals as goal
 
 pub returns : goal.returns
-unfolding fault₂
-returns c = search rules
+returns c = unread-first (recipe c.args.s.now) _ _ (λ x q k. search rules) (λ x q k. search rules) _ _ c.of.ensures c.find.ensures.ran

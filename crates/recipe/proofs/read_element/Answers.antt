@@ -1,25 +1,22 @@
 -- `recipe::read_element` meets its contract: field by field, as each reader answers.
 -- Assumes nothing.
-use mathlib.Core.Path.{sym, ◌∙◌}
-use Rattle.names.proofs.Names.{is_name_lem, is-no-name, is-optional, not-neither, is-not-optional}
-use Rattle.recipe.proofs.Fields.{element-nameless, element-classless, element-parent, element-reference, element-read}
+use Rattle.std.specs.Prelude.{is_some}
+use mathlib.Core.Path.{ap, sym, ◌∙◌}
+use Rattle.flat_table.specs.Classes.{is_class}
+use Rattle.recipe.proofs.Fields.{is-named, unnamed, element-nameless, element-classless, element-parent, element-reference, element-read}
 use Rattle.recipe.proofs.read_element.Goals as goal
 
-pub returns-in_default : goal.returns-in_default
-returns-in_default c = element-nameless _ _ c.requires.kinded (is-no-name _ c.field_at.ensures c.in_default.not-Name)
+pub returns-in_err-name_at : goal.returns-in_err-name_at
+returns-in_err-name_at c = c.from_residual.ensures ∙ element-nameless _ _ c.requires.kinded (unnamed _ (sym c.in_err-name_at.was ∙ c.name_at.ensures))
 
 pub returns-then-not-is_class : goal.returns-then-not-is_class
-returns-then-not-is_class c =
-    element-classless _ _ c.requires.kinded (is_name_lem _ (sym c.in-Name.is ∙ c.field_at.ensures)) (sym c.is_class.ensures ∙ c.if-not-is_class.true)
+returns-then-not-is_class c = element-classless _ _ c.requires.kinded (is-named _ (sym c.in_ok-name_at.was ∙ c.name_at.ensures)) (ap is_class (sym c.class_at-class.ensures) ∙ sym c.is_class.ensures ∙ c.if-not-is_class.true)
 
-pub returns-in_default-field_at : goal.returns-in_default-field_at
-returns-in_default-field_at c =
-    element-parent _ _ c.requires.kinded (is_name_lem _ (sym c.in-Name.is ∙ c.field_at.ensures)) (sym c.is_class.ensures ∙ c.if-not-is_class.false) (is-not-optional _ (sym c.in_default-field_at.is ∙ c.field_at-2.ensures))
+pub returns-in_err-optional_at : goal.returns-in_err-optional_at
+returns-in_err-optional_at c = c.from_residual-in_err-optional_at.ensures ∙ element-parent _ _ c.requires.kinded (is-named _ (sym c.in_ok-name_at.was ∙ c.name_at.ensures)) (ap is_class (sym c.class_at-class.ensures) ∙ sym c.is_class.ensures ∙ c.if-not-is_class.false) (sym c.optional_at.ensures ∙ ap is_some c.in_err-optional_at.was)
 
-pub returns-in_default-field_at-2 : goal.returns-in_default-field_at-2
-returns-in_default-field_at-2 c =
-    element-reference _ _ c.requires.kinded (is_name_lem _ (sym c.in-Name.is ∙ c.field_at.ensures)) (sym c.is_class.ensures ∙ c.if-not-is_class.false) (is-optional _ c.field_at-2.ensures (not-neither c.in-Name-field_at.is)) (is-not-optional _ (sym c.in_default-field_at-2.is ∙ c.field_at-3.ensures))
+pub returns-in_err-optional_at-2 : goal.returns-in_err-optional_at-2
+returns-in_err-optional_at-2 c = c.from_residual-in_err-optional_at-2.ensures ∙ element-reference _ _ c.requires.kinded (is-named _ (sym c.in_ok-name_at.was ∙ c.name_at.ensures)) (ap is_class (sym c.class_at-class.ensures) ∙ sym c.is_class.ensures ∙ c.if-not-is_class.false) (sym c.optional_at.ensures ∙ ap is_some c.in_ok-optional_at.was) (sym c.optional_at-2.ensures ∙ ap is_some c.in_err-optional_at-2.was)
 
 pub returns : goal.returns
-returns c =
-    element-read _ _ c.requires.kinded (is_name_lem _ (sym c.in-Name.is ∙ c.field_at.ensures)) (sym c.is_class.ensures ∙ c.if-not-is_class.false) (is-optional _ c.field_at-2.ensures (not-neither c.in-Name-field_at.is)) (is-optional _ c.field_at-3.ensures (not-neither c.in-Name-field_at-2.is))
+returns c = rw c.class_at-class.ensures (element-read _ _ c.requires.kinded (is-named _ (sym c.in_ok-name_at.was ∙ c.name_at.ensures)) (ap is_class (sym c.class_at-class.ensures) ∙ sym c.is_class.ensures ∙ c.if-not-is_class.false) (sym c.optional_at.ensures ∙ ap is_some c.in_ok-optional_at.was) (sym c.optional_at-2.ensures ∙ ap is_some c.in_ok-optional_at-2.was))

@@ -1,11 +1,15 @@
 -- `record_index::enter_records` meets its contract: the invariant: the first i records are entered, and those from the iterator's place on are left.
 -- Assumes nothing.
 use mathlib.Core.Path.{refl}
+use Prim.Native.Nat.{◌+◌}
 use native.Mathlib.Omega.{arith}
+use native.Mathlib.Nat.{add-sub_cancel_left}
+use lib.ListN.{drop, length-drop}
+use lib.Seq.{length-take-le}
 use Rattle.recipe.specs.Records.{recipe}
-use Rattle.recipe.proofs.Steps.{over-start, over-step, over-end}
+use Rattle.recipe.proofs.Steps.{over-start, over-end}
 use Rattle.shadow.proofs.Cells.{walk-place}
-use Rattle.record_index.proofs.Entering.{entering-start, entering-low, field_room, entering-one, entering-all, entering-listed, entering-end}
+use Rattle.record_index.proofs.Entering.{entering-start, entering-step, entering-low, field_room, entering-one, entering-all, entering-listed, entering-end}
 use Rattle.record_index.proofs.enter_records.Goals as goal
 
 pub loop-p-init : goal.loop-p-init
@@ -13,73 +17,63 @@ loop-p-init c =
     let o = over-start (recipe c.args.s.now) c.of-p-items.ensures c.into_iter-p-iterator.ensures.into_iter_gives in
     (o.0, rw o.1 (entering-start _ _ _ _ _))
 
-pub overflow_cast-at : goal.overflow_cast-at
-overflow_cast-at c =
-    omega (arith, c.requires.0.shadowed.short, (over-step c.loop-p.invariant.0 c.in-Some.ensures.steps).inside)
+pub overflow_cast-tables : goal.overflow_cast-tables
+overflow_cast-tables c =
+    omega (arith, c.requires.shadowed.short, (entering-step c.loop-p.invariant c.in-Some.ensures.steps).0.inside)
 
-pub offset_bounds-at-i : goal.offset_bounds-at-i
-offset_bounds-at-i c =
-    omega arith
+pub offset_bounds-tables-i : goal.offset_bounds-tables-i
+offset_bounds-tables-i c = omega (arith, entering-low c.requires.shadowed (entering-step c.loop-p.invariant c.in-Some.ensures.steps).1)
 
-pub bounds-at-i : goal.bounds-at-i
-bounds-at-i c =
-    let g = rw (over-step c.loop-p.invariant.0 c.in-Some.ensures.steps).place at c.loop-p.invariant.1 in
-    omega (arith, entering-low c.requires.0.shadowed g, g.listing.long, c.requires.1.0)
+pub bounds-tables-i : goal.bounds-tables-i
+bounds-tables-i c =
+    omega (arith, entering-low c.requires.shadowed (entering-step c.loop-p.invariant c.in-Some.ensures.steps).1, c.loop-p.tables.room_at)
 
 pub overflow_add-p : goal.overflow_add-p
 overflow_add-p c =
-    omega (arith, c.requires.0.shadowed.short, (over-step c.loop-p.invariant.0 c.in-Some.ensures.steps).inside)
+    omega (arith, c.requires.shadowed.short, (entering-step c.loop-p.invariant c.in-Some.ensures.steps).0.inside)
 
 pub overflow_mul-i : goal.overflow_mul-i
 overflow_mul-i c =
-    let z = over-step c.loop-p.invariant.0 c.in-Some.ensures.steps in
-    omega (arith, (field_room c.requires.0.shadowed (rw z.place at c.loop-p.invariant.1) z.inside).1)
+    let z = entering-step c.loop-p.invariant c.in-Some.ensures.steps in
+    omega (arith, (field_room c.requires.shadowed z.1 z.0.inside).1)
+
+pub slice_bounds-put_bytes-end : goal.slice_bounds-put_bytes-end
+slice_bounds-put_bytes-end c =
+    let z = entering-step c.loop-p.invariant c.in-Some.ensures.steps in
+    (field_room c.requires.shadowed z.1 z.0.inside).0
 
 pub put_bytes-requires : goal.put_bytes-requires
 put_bytes-requires c =
-    let z = over-step c.loop-p.invariant.0 c.in-Some.ensures.steps in
-    let g = rw z.place at c.loop-p.invariant.1 in
-    let room = field_room c.requires.0.shadowed g z.inside in
-    (room.0, omega (arith, room.1, g.copying.long, c.requires.1.1.0))
+    let z = entering-step c.loop-p.invariant c.in-Some.ensures.steps in
+    let room = field_room c.requires.shadowed z.1 z.0.inside in
+    let long = length-take-le c.args.s.now.width (drop (c.in-Some.p + 1) c.args.s.now.bytes.now) (omega (arith, length-drop (c.in-Some.p + 1) c.args.s.now.bytes.now, room.0)) in
+    rw (add-sub_cancel_left (c.in-Some.p + 1) c.args.s.now.width) (omega (arith, long, room.1, c.loop-p.tables.room_fields))
 
 pub key_at-requires : goal.key_at-requires
 key_at-requires c =
-    let z = over-step c.loop-p.invariant.0 c.in-Some.ensures.steps in
-    (c.requires.0, walk-place c.requires.0.shadowed (rw z.place at c.loop-p.invariant.1).walk z.inside)
+    let z = entering-step c.loop-p.invariant c.in-Some.ensures.steps in
+    (c.requires, walk-place c.requires.shadowed z.1.walk z.0.inside)
 
-pub offset_bounds-keys-i : goal.offset_bounds-keys-i
-offset_bounds-keys-i c =
-    omega arith
+pub offset_bounds-tables-i-in-loop-p : goal.offset_bounds-tables-i-in-loop-p
+offset_bounds-tables-i-in-loop-p c = omega (arith, entering-low c.requires.shadowed (entering-step c.loop-p.invariant c.in-Some.ensures.steps).1)
 
-pub bounds-keys-i : goal.bounds-keys-i
-bounds-keys-i c =
-    let g = rw (over-step c.loop-p.invariant.0 c.in-Some.ensures.steps).place at c.loop-p.invariant.1 in
-    omega (arith, entering-low c.requires.0.shadowed g, g.keying.long, c.requires.1.1.1)
+pub bounds-tables-i-in-loop-p : goal.bounds-tables-i-in-loop-p
+bounds-tables-i-in-loop-p c =
+    omega (arith, entering-low c.requires.shadowed (entering-step c.loop-p.invariant c.in-Some.ensures.steps).1, c.loop-p.tables.room_keys)
 
 pub overflow_add-i : goal.overflow_add-i
-overflow_add-i c =
-    omega arith
+overflow_add-i c = omega (arith, entering-low c.requires.shadowed (entering-step c.loop-p.invariant c.in-Some.ensures.steps).1)
 
 pub loop-p-preserved : goal.loop-p-preserved
 loop-p-preserved c =
-    let z = over-step c.loop-p.invariant.0 c.in-Some.ensures.steps in
-    (z.over, rw z.on (entering-one c.requires.0.shadowed (rw z.place at c.loop-p.invariant.1) c.requires.1.0 c.requires.1.1.0 c.requires.1.1.1 z.inside c.put_bytes.ensures c.key_at.ensures refl))
-
-pub shape_of-at : goal.shape_of-at
-shape_of-at c = c.loop-p.invariant.1.listing.long
-
-pub shape_of-fields : goal.shape_of-fields
-shape_of-fields c = c.loop-p.invariant.1.copying.long
-
-pub shape_of-keys : goal.shape_of-keys
-shape_of-keys c = c.loop-p.invariant.1.keying.long
+    let z = entering-step c.loop-p.invariant c.in-Some.ensures.steps in
+    let x = c.args.tables.now in
+    (z.0.over, rw z.0.on (entering-one c.requires.shadowed z.1 x.room_at x.room_fields x.room_keys z.0.inside (rw (add-sub_cancel_left (c.in-Some.p + 1) c.args.s.now.width) at c.put_bytes.ensures) c.key_at.ensures refl))
 
 pub returns : goal.returns
 returns c =
-    let sh = c.requires.0.shadowed in
+    let sh = c.requires.shadowed in
     let g = c.loop-p.invariant.1 in
     let h = over-end c.loop-p.invariant.0 c.in-None.ensures.steps in
-    let a = c.requires.1.0 in
-    let b = c.requires.1.1.0 in
-    let d = c.requires.1.1.1 in
-    (entering-listed sh g a b d h, (entering-all sh g a b d h, entering-end sh g a b d h))
+    let x = c.args.tables.now in
+    (entering-listed sh g x.room_at x.room_fields x.room_keys h, (entering-all sh g x.room_at x.room_fields x.room_keys h, entering-end sh g x.room_at x.room_fields x.room_keys h))

@@ -7,4 +7,5 @@ use Rattle.record_index.proofs.enter_records.Given as goal
 
 abbrev pub invariant-loop-p : goal.invariant-loop-p
 invariant-loop-p l =
-    Over (recipe l.s) l.p-iterator × EntryLoop (recipe l.s) l.t l.initial.at l.initial.fields l.initial.keys l.at l.fields l.keys l.i l.p-iterator.at
+    let x = l.initial.tables in
+    Over (recipe l.s) l.p-iterator × EntryLoop (recipe l.s) l.t x.at.now x.fields.now x.keys.now l.tables.at.now l.tables.fields.now l.tables.keys.now l.i l.p-iterator.at

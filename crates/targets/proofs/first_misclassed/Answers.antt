@@ -2,64 +2,48 @@
 -- Assumes nothing.
 use borrow.Author.Tests.{eq-eqb, ne_eqb}
 use mathlib.Core.Bool.{not}
-use mathlib.Core.Path.{◌∙◌, ap, refl, sym}
+use mathlib.Core.Path.{◌∙◌, ap, sym}
 use native.Mathlib.Omega.{arith}
 use Rattle.recipe.specs.Records.{recipe}
-use Rattle.recipe.proofs.Going.{going_end, going-hit, going_on, going_start}
-use Rattle.recipe.proofs.Steps.{over-end, over-start, over-step}
+use Rattle.recipe.proofs.Going.{going_end, going_start}
+use Rattle.recipe.proofs.Steps.{over-end, over-start}
 use Rattle.tree.specs.Faults.{fault₁₀}
-use Rattle.targets.proofs.Misclassed.{aim-low, misclassed, not-owned, own-low, row_here, this}
+use Rattle.targets.proofs.Misclassed.{aim-low, judged-hit, judged-on, misclassed, not-owned, own-low, row_here}
 use Rattle.targets.proofs.first_misclassed.Goals as goal
 
 pub loop-p-init : goal.loop-p-init
 loop-p-init c =
-    let o = over-start (recipe c.args.tree.now.source.now) c.of-p-items.ensures c.into_iter-p-iterator.ensures.into_iter_gives in
+    let o = over-start (recipe c.args.s.now) c.of-p-items.ensures c.into_iter-p-iterator.ensures.into_iter_gives in
     (o.0, rw o.1 (going_start _ _))
 
 pub cell-requires : goal.cell-requires
-cell-requires c =
-    let z = over-step c.loop-p.invariant.0 c.in-Some.ensures.steps in
-    let g = rw z.place at c.loop-p.invariant.1 in
-    omega (arith, row_here c.args.tree.now.targeted.aimed g z.inside)
+cell-requires c = omega (arith, row_here c.requires c.loop-p.invariant c.in-Some.ensures.steps)
 
-pub class_of-a-requires : goal.class_of-a-requires
-class_of-a-requires c =
-    let z = over-step c.loop-p.invariant.0 c.in-Some.ensures.steps in
-    let g = rw z.place at c.loop-p.invariant.1 in
-    own-low c.args.tree.now.targeted.aimed g z.inside c.is_owned.ensures c.if-is_owned.true c.cell.ensures.0
+pub class_at-a-requires : goal.class_at-a-requires
+class_at-a-requires c =
+    own-low c.requires c.loop-p.invariant c.in-Some.ensures.steps c.is_owned.ensures c.if-is_owned.true c.cell.ensures.0
 
 pub cell-requires-then-is_owned : goal.cell-requires-then-is_owned
-cell-requires-then-is_owned c =
-    let z = over-step c.loop-p.invariant.0 c.in-Some.ensures.steps in
-    let g = rw z.place at c.loop-p.invariant.1 in
-    omega (arith, row_here c.args.tree.now.targeted.aimed g z.inside)
+cell-requires-then-is_owned c = omega (arith, row_here c.requires c.loop-p.invariant c.in-Some.ensures.steps)
 
-pub class_of-b-requires : goal.class_of-b-requires
-class_of-b-requires c =
-    let z = over-step c.loop-p.invariant.0 c.in-Some.ensures.steps in
-    let g = rw z.place at c.loop-p.invariant.1 in
-    aim-low c.args.tree.now.targeted.aimed g z.inside c.is_owned.ensures c.if-is_owned.true c.cell-then-is_owned.ensures.0
+pub class_at-b-requires : goal.class_at-b-requires
+class_at-b-requires c =
+    aim-low c.requires c.loop-p.invariant c.in-Some.ensures.steps c.is_owned.ensures c.if-is_owned.true c.cell-then-is_owned.ensures.0
 
 pub returns-then-a-b : goal.returns-then-a-b
-unfolding fault₁₀
 returns-then-a-b c =
-    let z = over-step c.loop-p.invariant.0 c.in-Some.ensures.steps in
-    let g = rw z.place at c.loop-p.invariant.1 in
-    let m = misclassed c.args.tree.now.targeted.aimed g z.inside c.is_owned.ensures c.if-is_owned.true c.cell.ensures.0 c.cell-then-is_owned.ensures.0 c.class_of-a.ensures c.class_of-b.ensures in
-    sym (going-hit (this c.args.tree.now.targeted.aimed g z.inside) (m ∙ ap not (ne_eqb _ _ c.if-a-b.true)))
+    judged-hit c.requires c.loop-p.invariant c.in-Some.ensures.steps
+    (misclassed c.requires c.loop-p.invariant c.in-Some.ensures.steps c.is_owned.ensures c.if-is_owned.true c.cell.ensures.0 c.cell-then-is_owned.ensures.0 c.class_at-a.ensures c.class_at-b.ensures ∙ ap not (ne_eqb _ _ c.if-a-b.true))
 
 pub loop-p-preserved-else-a-b : goal.loop-p-preserved-else-a-b
 loop-p-preserved-else-a-b c =
-    let z = over-step c.loop-p.invariant.0 c.in-Some.ensures.steps in
-    let g = rw z.place at c.loop-p.invariant.1 in
-    let m = misclassed c.args.tree.now.targeted.aimed g z.inside c.is_owned.ensures c.if-is_owned.true c.cell.ensures.0 c.cell-then-is_owned.ensures.0 c.class_of-a.ensures c.class_of-b.ensures in
-    (z.over, rw z.on (going_on (this c.args.tree.now.targeted.aimed g z.inside) (m ∙ ap not (eq-eqb _ _ c.if-a-b.false)) refl))
+    judged-on c.requires c.loop-p.invariant c.in-Some.ensures.steps
+    (misclassed c.requires c.loop-p.invariant c.in-Some.ensures.steps c.is_owned.ensures c.if-is_owned.true c.cell.ensures.0 c.cell-then-is_owned.ensures.0 c.class_at-a.ensures c.class_at-b.ensures ∙ ap not (eq-eqb _ _ c.if-a-b.false))
 
 pub loop-p-preserved : goal.loop-p-preserved
 loop-p-preserved c =
-    let z = over-step c.loop-p.invariant.0 c.in-Some.ensures.steps in
-    let g = rw z.place at c.loop-p.invariant.1 in
-    (z.over, rw z.on (not-owned c.args.tree.now.targeted.aimed g z.inside c.is_owned.ensures c.if-is_owned.false))
+    judged-on c.requires c.loop-p.invariant c.in-Some.ensures.steps
+    (not-owned c.requires c.loop-p.invariant c.in-Some.ensures.steps c.is_owned.ensures c.if-is_owned.false)
 
 pub returns : goal.returns
 unfolding fault₁₀

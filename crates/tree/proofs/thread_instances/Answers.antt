@@ -12,10 +12,10 @@ pub cell-next-requires : goal.cell-next-requires
 cell-next-requires c =
     first-room c.requires (c.loop-i.i - 1) c.loop-i.invariant (omega (arith, c.loop-i-test.true)) c.cell-d.ensures.0
 
-pub set_cell-requires-in-loop-i : goal.set_cell-requires-in-loop-i
-set_cell-requires-in-loop-i c =
+pub set_numbered-requires : goal.set_numbered-requires
+set_numbered-requires c =
     (first-room c.requires (c.loop-i.i - 1) c.loop-i.invariant (omega (arith, c.loop-i-test.true)) c.cell-d.ensures.0, omega (arith, c.requires.few))
 
 pub loop-i-preserved : goal.loop-i-preserved
 loop-i-preserved c =
-    thread-one c.requires (c.loop-i.i - 1) c.loop-i.invariant (omega (arith, c.loop-i-test.true)) c.cell-d.ensures.0 c.cell-next.ensures.0 c.set_cell.ensures c.set_cell-in-loop-i.ensures
+    thread-one c.requires (c.loop-i.i - 1) c.loop-i.invariant (omega (arith, c.loop-i-test.true)) c.cell-d.ensures.0 c.cell-next.ensures.0 c.set_cell.ensures c.set_numbered.ensures

@@ -10,4 +10,4 @@ returns-in_err-e-clause-steps c = rw c.from_residual.ensures (c.in_err-e.ensures
 
 pub returns-clause-goes : goal.returns-clause-goes
 returns-clause-goes c =
-    record { on = λ f. (c.requires, f, omega (arith, ap length c.in_ok-e.ensures.1)); keeps = c.requires; rests = λ f. tt }
+    record { on = λ f. (tt, f, omega (arith, ap length c.in_ok-e.ensures.1)); keeps = tt; rests = λ f. tt }

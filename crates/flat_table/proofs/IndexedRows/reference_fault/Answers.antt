@@ -2,10 +2,9 @@
 -- Assumes nothing.
 use Rattle.std.specs.Prelude.{None}
 use mathlib.Core.Path.{sym, ap, ◌∙◌}
-use native.Mathlib.Omega.{arith}
 use Rattle.flat_table.specs.Classes.{reference_allowed}
 use Rattle.flat_table.specs.Table.{is_reference_fault}
-use Rattle.flat_table.proofs.Places.{named-row, link-blank, link-missing, link-there, reference-row}
+use Rattle.flat_table.proofs.Places.{named-inside, link-blank, link-missing, link-there, reference-row}
 use Rattle.flat_table.proofs.IndexedRows.reference_fault.Goals as goal
 
 pub returns-then-is_blank : goal.returns-then-is_blank
@@ -18,9 +17,7 @@ unfolding is_reference_fault
 returns-in_default c = link-missing _ _ _ _ _ _ _ c.row-row.ensures.reference c.is_blank.ensures c.if-is_blank.false (sym c.find.ensures ∙ c.in_default.is)
 
 pub bounds-self-to : goal.bounds-self-to
-bounds-self-to c =
-    let r = named-row _ c.args.self.now.rows.fields c.find.ensures c.in-Some.is in
-    omega (arith, r.room, r.fields.three)
+bounds-self-to c = named-inside _ _ c.args.self.now.rows.fields c.find.ensures c.in-Some.is
 
 pub returns : goal.returns
 unfolding is_reference_fault

@@ -10,6 +10,7 @@ use Rattle.recipe.proofs.Steps.{over-start, over-step, over-end}
 use Rattle.shadow.proofs.Cells.{row_kept, walk_start, walk-place, walk-room, walk-one, walk_end, filling-start, filling-one, filling-end}
 use Rattle.shadow.proofs.Columns.{numbered-over}
 use Rattle.record_index.specs.Indexed.{recipe_of}
+use Rattle.links.proofs.Looking.{among-placed}
 use Rattle.links.proofs.Targets.{links-row, links-none, links-some, fault-five}
 use Rattle.links.proofs.Linker.link_records.Goals as goal
 
@@ -23,12 +24,12 @@ cell-requires c =
     let z = over-step c.loop-p.invariant.0 c.in-Some.ensures.steps in
     omega (arith, walk-room c.requires.shadowed (rw z.place at c.loop-p.invariant.1).0 z.inside)
 
-pub link_record-requires : goal.link_record-requires
-link_record-requires c =
+pub invariant_of-h : goal.invariant_of-h
+invariant_of-h c =
     let z = over-step c.loop-p.invariant.0 c.in-Some.ensures.steps in
     let g = rw z.place at c.loop-p.invariant.1 in
     let i = walk-place c.requires.shadowed g.0 z.inside in
-    record { placed = i; held = c.cell.ensures.0 ∙ (g.0.kept.as-was _ 0 i (omega arith) refl ∙ c.requires.held _ i) }
+    record { placed = among-placed _ _ i; held = c.cell.ensures.0 ∙ (g.0.kept.as-was _ 0 i (omega arith) refl ∙ c.requires.held _ i) }
 
 pub returns-in_default : goal.returns-in_default
 returns-in_default c =
@@ -36,20 +37,20 @@ returns-in_default c =
     let z = over-step c.loop-p.invariant.0 c.in-Some.ensures.steps in
     (sym (fault-five R (going-hit (here R _ _ c.requires.shadowed.whole (rw z.place at c.loop-p.invariant.1).1.1 z.inside) (links-none R _ c.link_record.ensures c.in_default.is))), λ y. some-none y)
 
-pub set_cell-requires : goal.set_cell-requires
-set_cell-requires c =
+pub set_link-requires : goal.set_link-requires
+set_link-requires c =
     let z = over-step c.loop-p.invariant.0 c.in-Some.ensures.steps in
-    (omega (arith, walk-room c.requires.shadowed (rw z.place at c.loop-p.invariant.1).0 z.inside), c.wide.ensures.1)
+    omega (arith, walk-room c.requires.shadowed (rw z.place at c.loop-p.invariant.1).0 z.inside)
 
-pub set_cell-requires-in-loop-p : goal.set_cell-requires-in-loop-p
-set_cell-requires-in-loop-p c =
+pub set_link-requires-in-loop-p : goal.set_link-requires-in-loop-p
+set_link-requires-in-loop-p c =
     let z = over-step c.loop-p.invariant.0 c.in-Some.ensures.steps in
-    (omega (arith, walk-room c.requires.shadowed (rw z.place at c.loop-p.invariant.1).0 z.inside, (simp length-set at (ap length c.set_cell.ensures))), c.wide-in-loop-p.ensures.1)
+    omega (arith, walk-room c.requires.shadowed (rw z.place at c.loop-p.invariant.1).0 z.inside, (simp length-set at (ap length c.set_link.ensures)))
 
-pub set_cell-requires-in-loop-p-2 : goal.set_cell-requires-in-loop-p-2
-set_cell-requires-in-loop-p-2 c =
+pub set_link-requires-in-loop-p-2 : goal.set_link-requires-in-loop-p-2
+set_link-requires-in-loop-p-2 c =
     let z = over-step c.loop-p.invariant.0 c.in-Some.ensures.steps in
-    (omega (arith, walk-room c.requires.shadowed (rw z.place at c.loop-p.invariant.1).0 z.inside, (simp length-set at (ap length c.set_cell.ensures)), (simp length-set at (ap length c.set_cell-in-loop-p.ensures))), c.wide-in-loop-p-2.ensures.1)
+    omega (arith, walk-room c.requires.shadowed (rw z.place at c.loop-p.invariant.1).0 z.inside, (simp length-set at (ap length c.set_link.ensures)), (simp length-set at (ap length c.set_link-in-loop-p.ensures)))
 
 pub loop-p-preserved : goal.loop-p-preserved
 loop-p-preserved c =
@@ -59,7 +60,7 @@ loop-p-preserved c =
     let g = rw z.place at c.loop-p.invariant.1 in
     let i = walk-place sh g.0 z.inside in
     let l = links-some R _ c.link_record.ensures c.in-Some-link_record.is in
-    let row = links-row R _ l.1 (walk-room sh g.0 z.inside) c.set_cell.ensures c.wide.ensures.0 c.set_cell-in-loop-p.ensures c.wide-in-loop-p.ensures.0 c.set_cell-in-loop-p-2.ensures c.wide-in-loop-p-2.ensures.0 in
+    let row = links-row R _ l.1 (walk-room sh g.0 z.inside) c.set_link.ensures c.set_link-in-loop-p.ensures c.set_link-in-loop-p-2.ensures in
     (z.over, rw z.on (walk-one sh g.0 z.inside refl (row_kept sh i refl row), (filling-one g.1.0 sh i refl refl row, going_on (here R _ _ sh.whole g.1.1 z.inside) l.0 refl)))
 
 pub shape_of-t : goal.shape_of-t

@@ -1,12 +1,11 @@
--- `Records::is_twin` meets its contract: the keys decide, or else the names.
+-- `Records::is_twin` meets its contract: the key and the name of a position are its entry.
 -- Assumes nothing.
-use mathlib.Core.Path.{sym, ◌∙◌}
-use Rattle.name_index.proofs.Hashing.{same_keys, same-names}
-use Rattle.name_index.proofs.Positions.{key-first}
+use mathlib.Core.Path.{ap, ◌∙◌}
+use mathlib.Core.List.{◌∷◌}
+use Prim.Native.Nat.{ℕ}
+use Rattle.names.specs.Lists.{same}
+use Rattle.name_index.specs.Positions.{total_entry}
 use Rattle.name_index.proofs.Records.is_twin.Goals as goal
 
-pub returns-then-key : goal.returns-then-key
-returns-then-key c = let r = c.args.self.now in same_keys (key-first r c.args.q c.key.ensures) (key-first r c.args.p c.key-2.ensures) c.if-key.true
-
 pub returns : goal.returns
-returns c = c.is_same.ensures ∙ same-names c.name.ensures c.name-2.ensures (sym c.key.ensures ∙ (c.if-key.false ∙ c.key-2.ensures))
+returns c = c.is_at.ensures ∙ ap (same (total_entry c.args.self.now c.args.q)) (ap (λ (k : ℕ). k ∷ c.name.result.now) c.key.ensures ∙ c.name.ensures)

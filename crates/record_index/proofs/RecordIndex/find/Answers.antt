@@ -9,7 +9,7 @@ use Rattle.record_index.proofs.RecordIndex.find.Goals as goal
 
 pub returns-in_err-i : goal.returns-in_err-i
 returns-in_err-i c =
-    c.from_residual.ensures ∙ sought-none c.args.self.now c.requires.once c.requires.sought c.tag.ensures.0 c.field_at-f.ensures c.key-k.ensures c.find.ensures c.in_err-i.was
+    c.from_residual.ensures ∙ sought-none c.args.self.now c.requires.once c.requires.sought c.kind_byte-kind.ensures c.tag.ensures.0 c.field_at-f.ensures c.key-k.ensures c.find.ensures c.in_err-i.was
 
 pub offset_bounds-self-i : goal.offset_bounds-self-i
 offset_bounds-self-i c = omega (arith, low c.args.self.now _ c.find.ensures c.in_ok-i.was)
@@ -19,12 +19,12 @@ bounds-self-i c = low c.args.self.now _ c.find.ensures c.in_ok-i.was
 
 pub bounds-self-p : goal.bounds-self-p
 bounds-self-p c =
-    omega (arith, place-room (R c.args.self.now) _ (sought-in c.args.self.now c.requires.once c.requires.sought c.tag.ensures.0 c.field_at-f.ensures c.key-k.ensures c.find.ensures c.in_ok-i.was))
+    omega (arith, place-room (R c.args.self.now) _ (sought-in c.args.self.now c.requires.once c.requires.sought c.kind_byte-kind.ensures c.tag.ensures.0 c.field_at-f.ensures c.key-k.ensures c.find.ensures c.in_ok-i.was))
 
 pub returns-then-self-p : goal.returns-then-self-p
 returns-then-self-p c =
-    sought-some c.args.self.now c.requires.once c.requires.sought c.tag.ensures.0 c.field_at-f.ensures c.key-k.ensures c.find.ensures c.in_ok-i.was refl c.if-self-p.true
+    sought-some c.args.self.now c.requires.once c.requires.sought c.kind_byte-kind.ensures c.tag.ensures.0 c.field_at-f.ensures c.key-k.ensures c.find.ensures c.in_ok-i.was refl c.if-self-p.true
 
 pub returns : goal.returns
 returns c =
-    sought-other c.args.self.now c.requires.once c.requires.sought c.tag.ensures.0 c.field_at-f.ensures c.key-k.ensures c.find.ensures c.in_ok-i.was refl c.if-self-p.false
+    sought-other c.args.self.now c.requires.once c.requires.sought c.kind_byte-kind.ensures c.tag.ensures.0 c.field_at-f.ensures c.key-k.ensures c.find.ensures c.in_ok-i.was refl c.if-self-p.false

@@ -1,7 +1,0 @@
--- `Rooms::new` meets its contract: the arrays' starts.
--- Assumes nothing.
-use mathlib.Core.Path.{refl}
-use Rattle.compose.proofs.Rooms.new.Goals as goal
-
-pub returns : goal.returns
-returns c = (refl, (refl, refl))
