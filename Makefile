@@ -1,5 +1,5 @@
 # Bandrolt: try it, run it, test it, measure it. What each target needs is said if it is missing.
-LIBRARIES = composer flat_table origins factors
+LIBRARIES = composer flat_table origins factors sizes
 ARCHIVES = $(LIBRARIES:%=target/staticlib/lib%.a)
 PROGRAM = target/bin/bandrolt
 SOURCES = crates.txt $(shell find crates -path '*/out' -prune -o \( -name '*.rt' -o -name '*.antt' \) -print)
@@ -31,6 +31,11 @@ run: $(PROGRAM)
 TABLE = examples/sample-r.table
 table: $(BUILD)/solver
 	@$(BUILD)/solver table "$(TABLE)"
+
+# How many records and bytes the table of sample R, or of RECIPE=file, will have, and how long its longest name will be.
+size: $(BUILD)/solver
+	@$(CARGO) recipe encode "$(RECIPE)" > target/recipe
+	@$(BUILD)/solver size target/recipe
 
 # Where a flat name comes from, in words: through which submodels of sample R, or of RECIPE=file, to which element.
 NAME = a__s
@@ -72,10 +77,14 @@ compare recipes origins: %: lib
 program: lib $(PROGRAM)
 	@$(CARGO) program $(PROGRAM)
 
-# Few recipes and walks under valgrind: no call reads or writes what it was not lent, nor goes by a byte that nobody wrote.
-memory: memory-recipes memory-origins
+# Few recipes and walks, and the solver, under valgrind: no call reads or writes what it was not lent, nor goes by a byte that
+# nobody wrote.
+memory: memory-recipes memory-origins memory-solver
 memory-recipes memory-origins: memory-%: lib valgrind-there
 	@CARGO_TARGET_X86_64_UNKNOWN_LINUX_GNU_RUNNER="valgrind --quiet --error-exitcode=9" $(CARGO) $* few
+
+memory-solver: $(BUILD)/solver valgrind-there
+	@valgrind --quiet --error-exitcode=9 $(BUILD)/solver
 
 solver stack: %: $(BUILD)/%
 	@$(BUILD)/$@
@@ -95,4 +104,4 @@ tools-there:
 valgrind-there:
 	@command -v valgrind > /dev/null || { echo "bandrolt's memory test needs valgrind, which is not on this machine's PATH"; exit 1; }
 
-.PHONY: try run table origin test bench lib compare recipes origins program memory memory-recipes memory-origins solver stack ready tools-there valgrind-there
+.PHONY: try run table size origin test bench lib compare recipes origins program memory memory-recipes memory-origins memory-solver solver stack ready tools-there valgrind-there

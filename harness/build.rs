@@ -3,7 +3,7 @@
 
 use std::{env, path::Path};
 
-const ARCHIVES: [&str; 4] = ["composer", "flat_table", "origins", "factors"];
+const ARCHIVES: [&str; 5] = ["composer", "flat_table", "origins", "factors", "sizes"];
 
 fn main() {
     println!("cargo:rerun-if-env-changed=BANDROLT_LIB");

@@ -1,6 +1,7 @@
-/* Bandrolt's calls, for C99 and C++; link with libcomposer.a, libflat_table.a, liborigins.a and libfactors.a.
-   They flatten a recipe, by itself or with its time and extent factors, tell whether a flat table is closed, and walk
-   back from a flat name to the recipe's records, as documents 01 and 02 say it. */
+/* Bandrolt's calls, for C99 and C++; link with libcomposer.a, libflat_table.a, liborigins.a, libfactors.a and
+   libsizes.a. They say how large a recipe's flat table will be, flatten the recipe, by itself or with its time and
+   extent factors, tell whether a flat table is closed, and walk back from a flat name to the recipe's records, as
+   documents 01 and 02 say it. */
 
 #ifndef BANDROLT_H
 #define BANDROLT_H
@@ -94,6 +95,40 @@ typedef struct bandrolt_answer {
 #define BANDROLT_FLATTEN_STACK 131072
 
 bandrolt_answer bandrolt_flatten(const uint8_t *recipe, size_t length, uint8_t *table, size_t room);
+
+typedef struct bandrolt_size {
+    uint64_t number;  /* 0, or else as bandrolt_flatten without 13 */
+    uint64_t place;   /* offset of the record at fault, or 0 */
+    uint64_t count;   /* flat records; the three are 0 on a refusal */
+    uint64_t bytes;   /* what they take: lend so many */
+    uint64_t longest; /* bytes of the longest flat name, 0 to 68 */
+} bandrolt_size;
+
+/* Says how large the flat table of the `length` bytes at `recipe` will be, without an output.
+
+   An accepted recipe gives number 0, place 0, the number of its flat records, their bytes, 205 for each, and the length
+   of the longest flat name among them, without the zeros behind it; all three are 0 if nothing survives. Elements that
+   are gone count neither as records nor for the longest name.
+
+   Any other recipe gives the three 0, and the number and place of bandrolt_flatten, whatever its room: 1 to 12, 19 or
+   20. 13 doesn't apply.
+
+   Of an accepted recipe, flattening into exactly so many bytes gives 0, 0 and the same count and bytes, and into one byte
+   less, if there are any, 13. No name of the table is longer than `longest`, and one, if there are any, is so long. The
+   two calls in a row, without a byte to spare:
+
+     bandrolt_size size = bandrolt_table_size(recipe, length);
+     if (size.number != 0) return refused(size.number, size.place);
+     uint8_t *table = malloc(size.bytes);
+     if (table == NULL && size.bytes > 0) return out_of_memory();
+     bandrolt_flatten(recipe, length, table, size.bytes);
+     load(table, size.count);
+
+   The call reads the recipe alone, writes nothing, ends on all input, keeps no state and allocates nothing. `recipe` may
+   be null only with length 0. It needs less than BANDROLT_TABLE_SIZE_STACK bytes of stack. */
+#define BANDROLT_TABLE_SIZE_STACK 131072
+
+bandrolt_size bandrolt_table_size(const uint8_t *recipe, size_t length);
 
 typedef struct bandrolt_factors_answer {
     uint64_t number, place, count, bytes; /* as bandrolt_flatten */

@@ -16,7 +16,8 @@ CRATES = {
     "composer": ["Flat", "Verdicts", "Printed"],
     "origins": ["Origins"],
     "factors": ["Companion"],
-    "samples": ["Samples", "Walks", "Companions"],
+    "sizes": ["Size"],
+    "samples": ["Samples", "Walks", "Companions", "Sizes"],
 }
 # What is defined by a type of the code: no proof by computation meets it.
 LEFT_OUT = {"field_of", "optional_of"}

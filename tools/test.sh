@@ -73,6 +73,7 @@ beside "recipes: the other program" recipes
 beside "walks back: the other program" origins
 beside "recipes: memory" memory-recipes
 beside "walks back: memory" memory-origins
+beside "the solver: memory" memory-solver
 beside "the printing program" program
 beside "the solver, in C" solver
 beside "stack" stack

@@ -1,7 +1,8 @@
-/* Plays the solver: has recipes flattened, with their factors, too, and the tables checked, hands tables of its own to the
-   check, and asks where flat names come from.
-   `solver` compares the answers with 01's; `solver recipe FILE` flattens the bytes of a recipe and checks the table,
-   `solver table FILE` checks a table; both have status 1 if it is refused. */
+/* Plays the solver: asks how large the tables of recipes will be, has them flattened, with their factors, too, and the tables
+   checked, hands tables of its own to the check, and asks where flat names come from.
+   `solver` compares the answers with 01's and 02's; `solver size FILE` says how large the table of a recipe's bytes will be,
+   `solver recipe FILE` flattens them and checks the table, `solver table FILE` checks a table; each has status 1 if it is
+   refused. */
 
 #include "bandrolt.h"
 #include "recipe.h"
@@ -180,6 +181,84 @@ static void flatten_own_recipes(void)
     expect_flat("sample R with a deletion", &deletion, 1000, 12, 153, NULL, 0);
 }
 
+/* The length of a table's longest name. */
+static uint64_t longest_name(const uint8_t *table, uint64_t count)
+{
+    uint64_t longest = 0;
+    for (uint64_t i = 0; i < count; i++) {
+        const uint8_t *name = table + i * RECORD + 1, *zero = memchr(name, 0, FIELD);
+        uint64_t length = zero != NULL ? (uint64_t)(zero - name) : FIELD;
+        longest = length > longest ? length : longest;
+    }
+    return longest;
+}
+
+/* Asks for the size, and flattens into just so many bytes: the table is closed, and has the counts and the longest name that
+   were said. */
+static void expect_size(const char *what, const recipe *r, bandrolt_size expected)
+{
+    uint8_t *given = lend(r->bytes, r->length);
+    int holds;
+
+    bandrolt_size size = bandrolt_table_size(given, r->length);
+    uint8_t *table = lend_output(size.bytes);
+    bandrolt_answer answer = bandrolt_flatten(given, r->length, table, size.bytes);
+    bandrolt_table_answer check = bandrolt_check_table(table, answer.bytes);
+    holds = memcmp(&size, &expected, sizeof size) == 0;
+    holds = holds && (given == NULL || memcmp(given, r->bytes, r->length) == 0);
+    holds = holds && answer.number == size.number && answer.place == size.place;
+    holds = holds && answer.count == size.count && answer.bytes == size.bytes;
+    holds = holds && check.number == 0 && check.count == size.count;
+    holds = holds && longest_name(table, answer.count) == size.longest;
+    free(given);
+    free(table);
+
+    if (holds) {
+        passed++;
+    } else {
+        failed++;
+        printf("FAILED: size of %s: number %" PRIu64 ", place %" PRIu64 ", count %" PRIu64 ", bytes %" PRIu64
+               ", longest %" PRIu64 "\n",
+               what, size.number, size.place, size.count, size.bytes, size.longest);
+    }
+}
+
+static void ask_sizes(void)
+{
+    static const recipe empty;
+    static recipe only_top, sample_r, deletion, gone, levels;
+
+    put_model(&only_top, "top");
+    put_sample_r(&sample_r);
+    put_model(&deletion, "top");
+    put_element(&deletion, "c", 1, "", "");
+    put_submodel(&deletion, "a", "cell");
+    put_deletion(&deletion, "a", 0, "v");
+    put_cell(&deletion);
+    /* The longest name is that of an element that is gone. */
+    put_model(&gone, "top");
+    put_submodel(&gone, "a", "cell");
+    put_deletion(&gone, "a", 0, "long_name");
+    put_model(&gone, "cell");
+    put_element(&gone, "k", 3, "", "");
+    put_element(&gone, "long_name", 3, "", "");
+    /* Four prefixes of 14 bytes, and a name of 12. */
+    put_model(&levels, "m0");
+    for (int i = 1; i <= 4; i++) {
+        const char model[] = { 'm', (char)('0' + i), 0 };
+        put_submodel(&levels, "submodel_one", model);
+        put_model(&levels, model);
+    }
+    put_element(&levels, "twelve_bytes", 3, "", "");
+
+    expect_size("nothing", &empty, (bandrolt_size){ .number = 1 });
+    expect_size("only model top", &only_top, (bandrolt_size){ 0 });
+    expect_size("sample R", &sample_r, (bandrolt_size){ 0, 0, 2, 2 * RECORD, 4 });
+    expect_size("sample R with a deletion", &deletion, (bandrolt_size){ 12, 153, 0, 0, 0 });
+    expect_size("a recipe whose longest name is gone", &gone, (bandrolt_size){ 0, 0, 1, RECORD, 4 });
+    expect_size("a name of 68 bytes", &levels, (bandrolt_size){ 0, 0, 1, RECORD, FIELD });
+}
+
 /* Flattens with factors; the outputs must be `table` and `companion` where the recipe is accepted. */
 static void expect_factors(const char *what, const recipe *r, size_t room, size_t companion_room,
                            bandrolt_factors_answer expected, const uint8_t *table, const uint8_t *companion)
@@ -320,15 +399,21 @@ static uint8_t *read_file(const char *path, size_t *length)
     return bytes;
 }
 
+/* The status of a refusal. */
+static int refused(uint64_t number, uint64_t place)
+{
+    printf("refused %" PRIu64 " at %" PRIu64 "\n", number, place);
+    return 1;
+}
+
 /* Says what the check answers; the status comes back. */
 static int report(bandrolt_table_answer answer)
 {
-    if (answer.number == 0) {
-        printf("closed, %" PRIu64 " records\n", answer.count);
-        return 0;
+    if (answer.number != 0) {
+        return refused(answer.number, answer.place);
     }
-    printf("refused %" PRIu64 " at %" PRIu64 "\n", answer.number, answer.place);
-    return 1;
+    printf("closed, %" PRIu64 " records\n", answer.count);
+    return 0;
 }
 
 static int check_table(const char *path)
@@ -340,12 +425,26 @@ static int check_table(const char *path)
     return report(answer);
 }
 
+static int ask_size(const char *path)
+{
+    size_t length;
+    uint8_t *bytes = read_file(path, &length);
+    bandrolt_size size = bandrolt_table_size(bytes, length);
+    free(bytes);
+    if (size.number != 0) {
+        return refused(size.number, size.place);
+    }
+    printf("%" PRIu64 " records, %" PRIu64 " bytes, longest name %" PRIu64 "\n", size.count, size.bytes, size.longest);
+    return 0;
+}
+
 static int load_recipe(const char *path)
 {
     size_t length;
     uint8_t *bytes = read_file(path, &length);
-    uint8_t *table = allocate(MAX_RECORDS * RECORD);
-    bandrolt_answer answer = bandrolt_flatten(bytes, length, table, MAX_RECORDS * RECORD);
+    bandrolt_size size = bandrolt_table_size(bytes, length);
+    uint8_t *table = lend_output(size.bytes);
+    bandrolt_answer answer = bandrolt_flatten(bytes, length, table, size.bytes);
     bandrolt_table_answer said = { answer.number, answer.place, 0 };
     if (answer.number == 0) {
         said = bandrolt_check_table(table, answer.bytes);
@@ -357,6 +456,9 @@ static int load_recipe(const char *path)
 
 int main(int argc, char **argv)
 {
+    if (argc == 3 && strcmp(argv[1], "size") == 0) {
+        return ask_size(argv[2]);
+    }
     if (argc == 3 && strcmp(argv[1], "recipe") == 0) {
         return load_recipe(argv[2]);
     }
@@ -364,11 +466,12 @@ int main(int argc, char **argv)
         return check_table(argv[2]);
     }
     if (argc > 1) {
-        fputs("usage: solver | solver recipe FILE | solver table FILE\n", stderr);
+        fputs("usage: solver | solver size FILE | solver recipe FILE | solver table FILE\n", stderr);
         return 2;
     }
     check_own_tables();
     flatten_own_recipes();
+    ask_sizes();
     flatten_with_factors();
     walk_back_in_own_recipes();
     printf("%d passed, %d failed\n", passed, failed);

@@ -90,6 +90,17 @@ static void *flatten(void *holds) {
     return NULL;
 }
 
+static int is_sized(const recipe *r, uint64_t number, uint64_t count, uint64_t longest) {
+    bandrolt_size size = bandrolt_table_size(r->bytes, r->length);
+    return size.number == number && size.count == count && size.longest == longest;
+}
+
+static void *table_size(void *holds) {
+    *(int *)holds = is_sized(&cycle, 6, 0, 0) && is_sized(&ports, 0, 0, 0) && is_sized(&sample_r, 0, 2, 4) &&
+                    is_sized(&factors, 0, DEPTH + 1, DEPTH * 3 + 1);
+    return NULL;
+}
+
 /* With factors, the number that is answered, and the counts. */
 static int gives(const recipe *r, uint64_t number, uint64_t count, uint64_t entries) {
     bandrolt_factors_answer answer =
@@ -150,8 +161,9 @@ int main(void) {
     fill_recipes();
     passed = measure("bandrolt_check_table", check_table, BANDROLT_CHECK_TABLE_STACK);
     passed += measure("bandrolt_flatten", flatten, BANDROLT_FLATTEN_STACK);
+    passed += measure("bandrolt_table_size", table_size, BANDROLT_TABLE_SIZE_STACK);
     passed += measure("bandrolt_flatten_with_factors", flatten_with_factors, BANDROLT_FLATTEN_WITH_FACTORS_STACK);
     passed += measure("bandrolt_walk_back", walk_back, BANDROLT_WALK_BACK_STACK);
-    printf("%d passed, %d failed\n", passed, 4 - passed);
-    return passed != 4;
+    printf("%d passed, %d failed\n", passed, 5 - passed);
+    return passed != 5;
 }

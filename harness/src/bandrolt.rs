@@ -1,6 +1,6 @@
 //! The library's calls, made safe to call from Rust.
 //! This file uses nothing else of the harness: copy it into a program that links libcomposer.a, libflat_table.a,
-//! liborigins.a and libfactors.a.
+//! liborigins.a, libfactors.a and libsizes.a.
 
 /// What flattening answers, laid out as `bandrolt_answer` in bandrolt.h.
 ///
@@ -13,6 +13,17 @@ pub struct Answer {
     pub place: u64,
     pub count: u64,
     pub bytes: u64,
+}
+
+/// What the size answers, laid out as `bandrolt_size` in bandrolt.h.
+///
+/// `flat` is what flattening answers with room enough. An accepted recipe has the length of its longest flat name,
+/// 0 without flat records; a refused one has 0.
+#[repr(C)]
+#[derive(Clone, Copy, Debug, PartialEq, Eq)]
+pub struct Size {
+    pub flat: Answer,
+    pub longest: u64,
 }
 
 /// What flattening with factors answers, laid out as `bandrolt_factors_answer` in bandrolt.h.
@@ -53,7 +64,7 @@ pub struct Origin {
 }
 
 mod c {
-    use super::{Answer, FactorsAnswer, Origin, TableAnswer};
+    use super::{Answer, FactorsAnswer, Origin, Size, TableAnswer};
 
     extern "C" {
         pub fn bandrolt_flatten(
@@ -62,6 +73,7 @@ mod c {
             table: *mut u8,
             room: usize,
         ) -> Answer;
+        pub fn bandrolt_table_size(recipe: *const u8, length: usize) -> Size;
         pub fn bandrolt_flatten_with_factors(
             recipe: *const u8,
             length: usize,
@@ -93,6 +105,12 @@ pub fn flatten(recipe: &[u8], table: &mut [u8]) -> Answer {
             table.len(),
         )
     }
+}
+
+/// Says how large the flat table of a recipe will be, of any bytes and any length.
+pub fn table_size(recipe: &[u8]) -> Size {
+    // SAFETY: pointer and length are those of a slice, which the call reads and doesn't keep.
+    unsafe { c::bandrolt_table_size(recipe.as_ptr(), recipe.len()) }
 }
 
 /// Flattens a recipe, of any bytes and any length, into the beginning of `table`, and the time and extent factors of its

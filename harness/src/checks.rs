@@ -2,11 +2,13 @@
 //! A call is added by an entry in `CHECKS`; the walk back, which takes names, too, has `walks`.
 
 use crate::bandrolt::{
-    check_table, flatten, flatten_with_factors, Answer, FactorsAnswer, TableAnswer,
+    check_table, flatten, flatten_with_factors, table_size, Answer, FactorsAnswer, Size,
+    TableAnswer,
 };
 use crate::other::recipe::rules::Rules;
-use crate::other::recipe::{self, slow};
-use crate::other::{table, ENTRY, FIELD, RECORD};
+use crate::other::recipe::{self, sizers, slow};
+use crate::other::rules::before_zero;
+use crate::other::{table, Refusal, ENTRY, FIELD, RECORD};
 use crate::random::Random;
 use crate::recipes::{decode, encode, Record};
 use std::collections::HashSet;
@@ -20,6 +22,7 @@ const CHECKS: &[(&str, Check)] = &[
     ("flattening", flattening),
     ("flattening with factors", with_factors),
     ("flattening without kind 8", without_factors),
+    ("size", size),
 ];
 
 type Flatten = fn(&[u8], &mut [u8]) -> Answer;
@@ -42,6 +45,15 @@ pub const WITH_FACTORS: &[(&str, FlattenWithFactors)] = &[
         slow::flatten_with_factors(recipe, table, companion, &Rules::default())
     }),
     ("library", flatten_with_factors),
+];
+
+/// The programs that say how large a table will be; all must answer what the first does.
+pub const SIZERS: &[(&str, fn(&[u8]) -> Size)] = &[
+    ("other", recipe::table_size),
+    ("slow", |recipe| {
+        sizers::Rules::default().table_size(&slow::elements(recipe))
+    }),
+    ("library", table_size),
 ];
 
 /// The programs that check tables; all must find closed what flattening leaves.
@@ -206,4 +218,39 @@ fn without_factors(recipe: &[u8], rooms: &[usize], _: &Random) -> Option<String>
         let is_same = flatten(&stripped, &mut theirs) == answer && theirs == table;
         (!is_same).then(|| format!("{program} gives another table"))
     })
+}
+
+/// The programs answer the same, and it is the size of the table that flattening writes.
+fn size(recipe: &[u8], _: &[usize], _: &Random) -> Option<String> {
+    disagreement(
+        recipe,
+        [],
+        SIZERS,
+        |size, recipe, []| size(recipe),
+        |size, []| size_fault(recipe, size),
+    )
+}
+
+/// What is at fault in a size, by what the library flattens into exactly so many bytes, and into one byte less.
+fn size_fault(recipe: &[u8], size: &Size) -> Option<&'static str> {
+    let flattened = |room: usize| {
+        let mut table = pattern(room).into_boxed_slice();
+        (flatten(recipe, &mut table), table)
+    };
+    let bytes = size.flat.bytes as usize;
+    let (answer, table) = flattened(bytes);
+    if answer != size.flat {
+        return Some("flattening into so many bytes answers otherwise");
+    }
+    let too_short = Refusal {
+        number: 13,
+        place: 0,
+    };
+    let refused = |room: usize| (Err(too_short).into(), pattern(room).into_boxed_slice());
+    if bytes > 0 && flattened(bytes - 1) != refused(bytes - 1) {
+        return Some("flattening into one byte less isn't refused with 13, or writes");
+    }
+    let names = table.chunks(RECORD).map(|record| before_zero(name(record)));
+    let longest = names.map(<[u8]>::len).max().unwrap_or(0);
+    (longest as u64 != size.longest).then_some("the table's longest name has another length")
 }

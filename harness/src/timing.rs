@@ -49,14 +49,15 @@ pub fn print_head_with_flattening(what: &str) {
     );
 }
 
-/// Such a row; the programs are ours, the other and our flattening.
-pub fn print_row_with_flattening(what: &str, programs: &mut [Program; 3], recipe: &[u8]) {
+/// Such a row; the programs are ours, the other and our flattening. Ours divided by our flattening comes back.
+pub fn print_row_with_flattening(what: &str, programs: &mut [Program; 3], recipe: &[u8]) -> f64 {
     let [ours, other, flattening] = times(programs, &[recipe.to_vec()]);
+    let share = ours / flattening;
     println!(
-        "{what:<50}{ours:>12.3}{other:>12.3}{:>8.2}{flattening:>16.3}{:>8.2}",
-        ours / other,
-        ours / flattening
+        "{what:<50}{ours:>12.3}{other:>12.3}{:>8.2}{flattening:>16.3}{share:>8.2}",
+        ours / other
     );
+    share
 }
 
 /// Each program's microseconds for one input, in its best round.

@@ -1,4 +1,4 @@
--- The table of prefixes, row by row: an instance's row is that of the instance around it, and the prefix of its submodel.
+-- The tables of prefixes and of their lengths, row by row: an instance's row is that of the instance around it, and the prefix of its submodel.
 -- Assumes nothing.
 use mathlib.Core.Path.{◌≡◌, refl, sym, ap, ◌∙◌}
 use Prim.Native.Nat.{ℕ, zero, suc, ◌+◌, ◌*◌, ◌-◌, ◌≤◌, ◌<◌}
@@ -17,7 +17,7 @@ use Rattle.tree.specs.Tree.{instances, paths_below, most_depth, Submodels}
 use Rattle.tree.specs.Planted.{Planted}
 use Rattle.tree.proofs.Instances.{instance-path}
 use Rattle.flat_names.specs.Prefixes.{prefix, with_underscores, names_around, fewest}
-use Rattle.flat_names.specs.Rows.{Naming, RowsTo, prefixes_of, row_width}
+use Rattle.flat_names.specs.Rows.{LengthsTo, Naming, RowsTo, prefixes_of, row_width}
 use Rattle.std.specs.List.{copy_within}
 use native.Mathlib.Nat.{add-sub_cancel_left}
 use Rattle.flat_names.proofs.Puts.{parts, pasted, prefixes-short, rows-below, row_inside}
@@ -110,6 +110,15 @@ naming g =
     record { wide = h.wide; narrow = h.narrow; short = h.short; whole = h.whole; formed = l.row₃; small = g.row₇ }
 
 module _ {s : Recipe} {t inst : List ℕ} {n : ℕ} (x : Planted s t inst n) where
+  -- main has no prefix
+  pub lengths-start : (len : List ℕ) → n ≤ length len → LengthsTo s (set len 0 0) 1
+  lengths-start len b =
+      let some = some-instance s in
+      record {
+        counted = omega (arith, x.rows.count, length-set len 0 0);
+        each = λ i l. let z : i ≡ 0 = omega arith in rw (z, main-prefixes s) (get_or-set_same len 0 0 0 (omega (arith, x.rows.count)));
+      }
+
   -- main's row is empty
   pub rowed-start : (pre len : List ℕ) → n * row_width s.width ≤ length pre → n ≤ length len → Rowed s pre (set len 0 0) pre (set len 0 0) n 1
   rowed-start pre len a b =
@@ -118,8 +127,7 @@ module _ {s : Recipe} {t inst : List ℕ} {n : ℕ} (x : Planted s t inst n) whe
       record {
         rows = record {
           room = rw (← e) a;
-          counted = omega (arith, length-set len 0 0);
-          lengths = λ i l. let z : i ≡ 0 = omega arith in rw (z, main-prefixes s) (get_or-set_same len 0 0 0 (omega arith));
+          lengths = lengths-start len b;
           bytes = λ i l. let z : i ≡ 0 = omega arith in rw (z, main-prefixes s);
         };
         below = omega arith;
@@ -153,51 +161,79 @@ behind {s} {t} {inst} {n} {i} {m} {u} x low pos em eu =
       short = omega (arith, ap length are, length-append (prefixes_of s u) (prefix s m), prefixes-short s (naming x) i z);
     }
 
+-- ---- a turn of the lengths: that of instance i, of submodel m, is more than that of u
+pub record Longer (s : Recipe) (len : List ℕ) (i m u l : ℕ) : Type 0 where
+  pub behind-is : Behind s i m u
+  pub counted : i < length len
+  pub before-is : l ≡ length (prefixes_of s u)
+  pub fits : l + length (prefix s m) ≤ row_width s.width
+
+module _ {s : Recipe} {t inst len : List ℕ} {n i : ℕ} (x : Planted s t inst n) (g : LengthsTo s len i) (low : i < n) (pos : 0 < i)
+    {m u l : ℕ} (em : m ≡ get_or inst (6 * i + 3) 0) (eu : u ≡ get_or inst (6 * i + 4) 0) (el : l ≡ get_or len u 0) where
+  pub longer : Longer s len i m u l
+  longer =
+      let b = behind x low pos em eu in
+      let before-is : l ≡ length (prefixes_of s u) = el ∙ g.each u (around-low x low pos eu) in
+      record {
+        behind-is = b;
+        counted = omega (arith, b.inside, g.counted);
+        before-is = before-is;
+        fits = omega (arith, b.short);
+      }
+
+  pub lengthened : {r : ℕ} → r ≡ l + length (prefix s m) → LengthsTo s (set len i r) (i + 1)
+  lengthened {r} er =
+      let L = longer in
+      let size : length (prefixes_of s i) ≡ r = ap length L.behind-is.prefixes-are ∙ (length-append (prefixes_of s u) (prefix s m) ∙ omega (arith, L.before-is)) in
+      record {
+        counted = rw length-set g.counted;
+        each = λ k h. three k i
+            (λ v. get_or-set_other len i k r 0 (λ q. omega arith) ∙ g.each k v)
+            (λ v. rw v (get_or-set_same len i r 0 L.counted ∙ sym size))
+            (λ v. absurd (omega arith));
+      }
+
+-- what the loop over the lengths alone keeps
+pub record Lengthening (s : Recipe) (len : List ℕ) (n i : ℕ) : Type 0 where
+  pub lengths : LengthsTo s len i
+  pub below : i ≤ n
+  pub above : 0 < i
+
 -- ---- a turn: the row of instance i, of submodel m, behind that of u
 pub record Turn (s : Recipe) (pre len : List ℕ) (i m u l row : ℕ) : Type 0 where
-  pub behind-is : Behind s i m u
+  pub longer-is : Longer s len i m u l
   pub fits : l + length (prefix s m) ≤ row
   pub apart : u * row + row ≤ i * row
   pub inside : i * row + row ≤ length pre
-  pub counted : i < length len
-  pub before-is : l ≡ length (prefixes_of s u)
 
 module _ {s : Recipe} {t inst pre₀ len₀ pre len : List ℕ} {n i : ℕ} (x : Planted s t inst n) (g : Rowed s pre₀ len₀ pre len n i) (low : i < n)
     {m u l row : ℕ} (em : m ≡ get_or inst (6 * i + 3) 0) (eu : u ≡ get_or inst (6 * i + 4) 0) (el : l ≡ get_or len u 0) (er : row ≡ row_width s.width) where
   pub turn : Turn s pre len i m u l row
   turn =
-      let under : u < i = around-low x low g.above eu in
-      let b = behind x low g.above em eu in
-      let before-is : l ≡ length (prefixes_of s u) = el ∙ g.rows.lengths u under in
-      let here = row_inside g.rows b.inside in
+      let L = longer x g.rows.lengths low g.above em eu el in
       record {
-        behind-is = b;
-        fits = omega (arith, b.short);
-        apart = rows-below u i row under;
-        inside = rw er here.1;
-        counted = here.0;
-        before-is = before-is;
+        longer-is = L;
+        fits = rw er L.fits;
+        apart = rows-below u i row (around-low x low g.above eu);
+        inside = rw er (row_inside g.rows L.behind-is.inside).1;
       }
 
   pub turned : {pre' : List ℕ} {r : ℕ} → r ≡ l + length (prefix s m) → pre' ≡ sets pre (i * row) (take l (drop (u * row) pre) ++ prefix s m)
       → Rowed s pre₀ len₀ pre' (set len i r) n (i + 1)
   turned {pre'} {r} er' ep =
       let T = turn in
+      let L = T.longer-is in
       let R = row_width s.width in
       let P = prefixes_of s i in
       let under : u < i = around-low x low g.above eu in
-      let same_row : take l (drop (u * row) pre) ≡ prefixes_of s u = rw (er, T.before-is) (g.rows.bytes u under) in
-      let put : pre' ≡ sets pre (i * R) P = ep ∙ rw (same_row, er, T.behind-is.prefixes-are) in
-      let size : length P ≡ r = ap length T.behind-is.prefixes-are ∙ (length-append (prefixes_of s u) (prefix s m) ∙ omega (arith, T.before-is)) in
+      let same_row : take l (drop (u * row) pre) ≡ prefixes_of s u = rw (er, L.before-is) (g.rows.bytes u under) in
+      let put : pre' ≡ sets pre (i * R) P = ep ∙ rw (same_row, er, L.behind-is.prefixes-are) in
+      let size : length P ≡ r = ap length L.behind-is.prefixes-are ∙ (length-append (prefixes_of s u) (prefix s m) ∙ omega (arith, L.before-is)) in
       let long : length pre' ≡ length pre = sets-long pre' pre (i * R) P put in
       record {
         rows = record {
           room = rw long g.rows.room;
-          counted = rw length-set g.rows.counted;
-          lengths = λ k h. three k i
-              (λ v. get_or-set_other len i k r 0 (λ q. omega arith) ∙ g.rows.lengths k v)
-              (λ v. rw v (get_or-set_same len i r 0 T.counted ∙ sym size))
-              (λ v. absurd (omega arith));
+          lengths = lengthened x g.rows.lengths low g.above em eu el er';
           bytes = λ k h. three k i
               (λ v.
               let y : k < length (instances s) = omega (arith, x.rows.count) in

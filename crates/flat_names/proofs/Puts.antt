@@ -24,7 +24,7 @@ use Rattle.tree.specs.Tree.{instances, node, tree_elements, definition_at, Submo
 use Rattle.tree.proofs.Nodes.{in_tree}
 use Rattle.tree.proofs.Instances.{instance-path, at-most-four}
 use Rattle.flat_names.specs.Prefixes.{flat_name}
-use Rattle.flat_names.specs.Rows.{Naming, Prefixed, RowsTo, prefixes_of, row_width}
+use Rattle.flat_names.specs.Rows.{AllLengths, Naming, Prefixed, RowsTo, prefixes_of, row_width}
 use Rattle.flat_names.proofs.Lengths.{prefixes-bytes}
 
 -- ---- a part of a slice that is written over
@@ -77,7 +77,7 @@ rows-room n w h l = let a : n * (4 * w + 8) ≤ 64 * (4 * w + 8) = mul-le-mul_ri
 pub row_inside : {s : Recipe} {pre len : List ℕ} {n i : ℕ} → RowsTo s pre len n → i < length (instances s)
     → (i < length len) × (i * row_width s.width + row_width s.width ≤ length pre)
 row_inside {s} {pre} {len} {n} {i} t h =
-    (omega (arith, t.counted), (let z : i * row_width s.width + row_width s.width ≤ length pre = omega (arith, t.room, rows-below i (length (instances s)) (row_width s.width) h) in z))
+    (omega (arith, t.lengths.counted), (let z : i * row_width s.width + row_width s.width ≤ length pre = omega (arith, t.room, rows-below i (length (instances s)) (row_width s.width) h) in z))
 
 -- ---- a flat name, of the element at q in instance i
 pub record NameAt (s : Recipe) (i q : ℕ) : Type 0 where
@@ -132,8 +132,13 @@ module _ (s : Recipe) (x : Naming s) where
         named = refl;
       }
 
+  -- its length is that of its prefixes, and its name's
+  pub name-long : {len : List ℕ} {i l k : ℕ} (q : ℕ) → AllLengths s len → i < length (instances s) → In (node (get_or (instances s) i []) q) (tree_elements s)
+      → l ≡ get_or len i 0 → k ≡ length (name s q) → l + k ≡ length (flat_name s (node (get_or (instances s) i []) q))
+  name-long {len} {i} q t h e c n = omega (arith, ap length (name-at i q h e).named, length-append (prefixes_of s i) (name s q), t.each i h)
+
   row-short : (pre len : List ℕ) (i l : ℕ) → Prefixed s pre len → i < length (instances s) → l ≡ get_or len i 0 → l ≤ row_width s.width
-  row-short pre len i l t h c = omega (arith, t.lengths i h, prefixes-short i h)
+  row-short pre len i l t h c = omega (arith, t.lengths.each i h, prefixes-short i h)
 
   pub name-room : {pre len out : List ℕ} {i q at l row : ℕ} → Prefixed s pre len → i < length (instances s) → In (node (get_or (instances s) i []) q) (tree_elements s)
       → at + flat_width s.width ≤ length out → l ≡ get_or len i 0 → row ≡ row_width s.width → NameRoom s pre out i q at l row
@@ -156,7 +161,7 @@ module _ (s : Recipe) (x : Naming s) where
   put-name pre len i q out o₁ o₂ o₃ at l t h e c e₁ e₂ e₃ =
       let n = name-at i q h e in
       let p = prefixes_of s i in
-      let k : l ≡ length p = c ∙ t.lengths i h in
+      let k : l ≡ length p = c ∙ t.lengths.each i h in
       let f : List ℕ = padded s.width (name s q) in
       let b : List ℕ = replicate (row_width s.width - length p) 0 in
       let lf : length f ≡ s.width = rw (length-append, length-replicate) (omega (arith, name-short s q)) in

@@ -1,4 +1,4 @@
--- What writing a flat name asks of a recipe, and the table of the prefixes of the instances.
+-- What writing a flat name asks of a recipe, and the tables of the prefixes of the instances, and of their lengths alone.
 -- Assumes nothing.
 use Rattle.std.specs.Prelude.{ℕ, ◌+◌, ◌*◌, ◌≤◌, ◌<◌, ◌≡◌, List, [], map, length, get_or, take, drop, None}
 use Rattle.names.specs.Lists.{joined}
@@ -25,11 +25,19 @@ prefixes_of s i = joined (map (prefix s) (get_or (instances s) i []))
 abbrev pub row_width : ℕ → ℕ
 row_width w = 4 * w + 8
 
+-- there is a number for each instance, and the first n are the lengths of their prefixes
+pub record LengthsTo (s : Recipe) (len : List ℕ) (n : ℕ) : Type 0 where
+  pub counted : length (instances s) ≤ length len
+  pub each : (i : ℕ) → i < n → get_or len i 0 ≡ length (prefixes_of s i)
+
+-- all are
+abbrev pub AllLengths : Recipe → List ℕ → Type 0
+AllLengths s len = LengthsTo s len (length (instances s))
+
 -- there is a row for each instance, and the first n have in it their prefixes, and in the other table their length
 pub record RowsTo (s : Recipe) (pre len : List ℕ) (n : ℕ) : Type 0 where
   pub room : length (instances s) * row_width s.width ≤ length pre
-  pub counted : length (instances s) ≤ length len
-  pub lengths : (i : ℕ) → i < n → get_or len i 0 ≡ length (prefixes_of s i)
+  pub lengths : LengthsTo s len n
   pub bytes : (i : ℕ) → i < n → take (length (prefixes_of s i)) (drop (i * row_width s.width) pre) ≡ prefixes_of s i
 
 -- all instances have

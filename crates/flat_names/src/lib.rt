@@ -1,5 +1,5 @@
 // Flat names: the prefix of each instance, and the flat name of an element, written into a table.
-// For the floors above: Prefixes, the table of prefixes, and its put_name; PrefixRooms, its rooms, and the most rows; put_zeros; name_length, count_underscores, fewest_underscores, for who looks for a prefix and writes none.
+// For the floors above: Prefixes, the table of prefixes, and its put_name; PrefixRooms, its rooms, and the most rows; PrefixLengths, their lengths alone, and its name_length, for who writes no name; put_zeros; name_length, count_underscores, fewest_underscores, for who looks for a prefix and writes none.
 // They take the recipe s, of a name width of 12 to 64, its shadow, and the rows of the instances. A count of underscores is a byte wherever it is kept or passed on.
 #![tactic(auto)]
 
@@ -15,7 +15,7 @@ ghost use Rattle.tree.specs.Planted.{Planted};
 ghost use Rattle.shadow.specs.Columns.{Numbered, Linked};
 ghost use Rattle.flat_names.specs.Prefixes.{declared_names, names_around, fewest, prefix, flat_name};
 ghost use Rattle.flat_names.specs.Underscores.{run_first, run_behind, last_try, Stem};
-ghost use Rattle.flat_names.specs.Rows.{Naming, Prefixed, row_width};
+ghost use Rattle.flat_names.specs.Rows.{AllLengths, Naming, Prefixed, row_width};
 
 use names::field_at;
 use recipe::{Kind, Source};
@@ -52,6 +52,14 @@ pub struct Prefixes<'a> {
     pub bytes: &'a [u8],
     pub lengths: &'a [u16],
     pub ghost prefixed: { Prefixed (recipe source.now) bytes.now lengths.now },
+}
+
+// The lengths alone, for who writes no name: for each instance of a recipe how many bytes its prefixes are.
+#[derive(Clone, Copy)]
+pub struct PrefixLengths<'a> {
+    pub source: &'a Source<'a>,
+    pub lengths: &'a [u16],
+    pub ghost measured: { AllLengths (recipe source.now) lengths.now },
 }
 
 // The bytes of a row: four prefixes of w + 2.
@@ -142,7 +150,15 @@ pub fn fewest_underscores(s: &Source, t: &[u16], m: usize) -> u8
     raise_count(s, t, inner, m, n, u)
 }
 
-// Writes u underscores from `at` on, and answers where they end. In this crate only here the count is converted.
+// How many bytes the prefix of the submodel m has.
+fn prefix_length(s: &Source, t: &[u16], m: usize) -> usize
+    requires { Linked (recipe s.now) t.now × In m (submodels (recipe s.now) (holder (recipe s.now) m)) }
+    ensures { result ≡ length (prefix (recipe s.now) m) }
+{
+    name_length(s, m) + fewest_underscores(s, t, m) as usize
+}
+
+// Writes u underscores from `at` on, and answers where they end.
 fn put_underscores(out: &mut [u8], at: usize, u: u8) -> usize
     requires { at + u ≤ length out.old }
     ensures { (result ≡ at + u) × (out.new ≡ sets out.old at (replicate u underscore)) }
@@ -189,6 +205,20 @@ fn fill_rows(s: &Source, t: &[u16], inst: &[u16], n: usize, pre: &mut [u8], len:
     }
 }
 
+// Fills the lengths alone: that of the prefixes of the instance around, and more by the prefix of its submodel.
+fn fill_lengths(s: &Source, t: &[u16], inst: &[u16], n: usize, len: &mut [u16])
+    requires { Planted (recipe s.now) t.now inst.now n × (n ≤ length len.old) }
+    ensures { AllLengths (recipe s.now) len.new }
+{
+    len[0] = 0;
+    for i in 1..n {
+        let m = cell(inst, 6 * i, tree::SUBMODEL_RECORD);
+        let l = number_at(len, cell(inst, 6 * i, tree::AROUND));
+        let k = prefix_length(s, t, m);
+        len[i] = (l + k) as u16;
+    }
+}
+
 impl<'a> Prefixes<'a> {
     // That of a recipe of n instances, in the bytes and the lengths that are lent for it.
     pub fn fill(
@@ -221,5 +251,30 @@ impl<'a> Prefixes<'a> {
         names::put_bytes(field_at(self.bytes, i * row, l), out, at);
         names::put_bytes(field_at(s.bytes, q + 1, s.width), out, at + l);
         put_zeros(out, at + (l + s.width), row - l);
+    }
+}
+
+impl<'a> PrefixLengths<'a> {
+    // Those of a recipe of n instances, in the table that is lent for them.
+    pub fn fill(
+        s: &'a Source<'a>,
+        t: &[u16],
+        inst: &[u16],
+        n: usize,
+        lengths: &'a mut [u16],
+    ) -> PrefixLengths<'a>
+        requires { Planted (recipe s.now) t.now inst.now n × (n ≤ length lengths.old) }
+        ensures { recipe result.source.now ≡ recipe s.now }
+    {
+        fill_lengths(s, t, inst, n, lengths);
+        PrefixLengths { source: s, lengths }
+    }
+
+    // How many bytes the flat name of the element at q in instance i has, without the padding: its prefixes, and its name.
+    pub fn name_length(&self, i: usize, q: usize) -> usize
+        requires { let s = recipe self.now.source.now in Naming s × ((i < length (instances s)) × In (node (get_or (instances s) i []) q) (tree_elements s)) }
+        ensures { let s = recipe self.now.source.now in result ≡ length (flat_name s (node (get_or (instances s) i []) q)) }
+    {
+        number_at(self.lengths, i) + name_length(self.source, q)
     }
 }

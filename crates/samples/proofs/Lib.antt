@@ -3,3 +3,4 @@ pub mod Open
 pub mod Starred
 pub mod Walks
 pub mod Companions
+pub mod Sizes

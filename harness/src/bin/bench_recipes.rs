@@ -1,12 +1,19 @@
-//! Times the library's flattening of recipes beside the other program's, on recipes that grow.
-//! It prints microseconds for one recipe and judges nothing.
+//! Times the library's flattening of recipes beside the other program's, on recipes that grow; then the size of their tables,
+//! beside the library's flattening, too. It prints microseconds for one recipe, and which sizes take longer than they may.
 
-use harness::bandrolt::{flatten, Answer};
+use harness::bandrolt::{flatten, table_size, Answer};
 use harness::other::{recipe, RECORD};
 use harness::recipes::sized::{one_definition, plant, tree};
 use harness::recipes::text::{parse, parse_example};
 use harness::tables::MAX_RECORDS;
-use harness::timing::{print_head, print_series, Pair};
+use harness::timing::{
+    print_head, print_head_with_flattening, print_row_with_flattening, print_series, Pair, Program,
+};
+
+/// The most of flattening's time that a size may take: of any recipe, and of one with so many records.
+const MOST: f64 = 1.0;
+const MANY: u64 = 100;
+const MOST_OF_MANY: f64 = 0.9;
 
 type Flatten = fn(&[u8], &mut [u8]) -> Answer;
 
@@ -40,6 +47,14 @@ const fn family(
 impl Family {
     const fn refused(self, number: u64) -> Self {
         Family { number, ..self }
+    }
+
+    /// Its recipes, each with what its size is called.
+    fn series(&self) -> impl Iterator<Item = (String, Vec<u8>)> + '_ {
+        self.sizes.iter().map(|&size| {
+            let example = parse_example(&(self.recipe)(size)).expect("a recipe");
+            (format!("{size} {}", self.unit), example.recipe)
+        })
     }
 }
 
@@ -105,15 +120,41 @@ fn main() {
     });
     for family in &FAMILIES {
         let mut series = Vec::new();
-        for size in family.sizes {
-            let example = parse_example(&(family.recipe)(*size)).expect("a recipe");
-            let [ours, other] = programs.each_mut().map(|program| program(&example.recipe));
+        for (size, recipe) in family.series() {
+            let [ours, other] = programs.each_mut().map(|program| program(&recipe));
             assert_eq!(ours, other, "the programs answer the same");
             assert_eq!(ours.number, family.number, "{}", family.what);
-            series.push((format!("{size} {}", family.unit), vec![example.recipe]));
+            series.push((size, vec![recipe]));
         }
         print_series(family.what, &mut programs, series);
     }
+    print_sizes();
+}
+
+fn print_sizes() {
+    print_head_with_flattening("size");
+    let mut table = vec![0; MAX_RECORDS * RECORD];
+    let mut programs: [Program; 3] = [
+        Box::new(|recipe| table_size(recipe).flat.number),
+        Box::new(|recipe| recipe::table_size(recipe).flat.number),
+        Box::new(|recipe| flatten(recipe, &mut table).number),
+    ];
+    let mut longer = Vec::new();
+    for family in &FAMILIES {
+        for (size, recipe) in family.series() {
+            let [ours, other] = [table_size, recipe::table_size].map(|size| size(&recipe));
+            assert_eq!(ours, other, "the programs answer the same");
+            let count = ours.flat.count;
+            let what = format!("{}, {size}, {count} records", family.what);
+            let share = print_row_with_flattening(&what, &mut programs, &recipe);
+            let most = if count >= MANY { MOST_OF_MANY } else { MOST };
+            // As it is printed, in two digits.
+            if share >= most + 0.005 {
+                longer.push(format!("{what}: {share:.2}"));
+            }
+        }
+    }
+    println!("sizes that take more than {MOST} of flattening, or than {MOST_OF_MANY} from {MANY} records on: {longer:#?}");
 }
 
 /// As many definitions as so many kilobytes hold, and an end.

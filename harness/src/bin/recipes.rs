@@ -4,9 +4,10 @@
 
 use harness::bandrolt::{Answer, FactorsAnswer};
 use harness::checks::{
-    companion_rooms, complaint, pattern, FLATTENERS, TABLE_CHECKS, WITH_FACTORS,
+    companion_rooms, complaint, pattern, FLATTENERS, SIZERS, TABLE_CHECKS, WITH_FACTORS,
 };
 use harness::other::recipe::rules::{Rules, MUTANTS};
+use harness::other::recipe::sizers;
 use harness::other::recipe::slow::{
     self, conflicts, deciding_sides, factor_cases, Conflict, FactorCase, Side,
 };
@@ -15,7 +16,7 @@ use harness::random::Random;
 use harness::recipes::enumerate::each_recipe;
 use harness::recipes::generate::case;
 use harness::recipes::named::{edges, examples, factor_edges, to_try, Named};
-use harness::recipes::proved::{self, CompanionSample, Sample, TableSample};
+use harness::recipes::proved::{self, CompanionSample, Sample, SizeSample, TableSample};
 use harness::recipes::{decode, printed, shown_entries, text, Record};
 use harness::report::{are_often, asked, save, Asked, Tally};
 use harness::tables::MAX_RECORDS;
@@ -44,6 +45,8 @@ const LEAST_OF_A_DEPTH: usize = 1_000;
 /// The counts of underscores in a prefix; each side's names must decide each often enough.
 const COUNTS: RangeInclusive<usize> = 2..=12;
 const LEAST_OF_A_COUNT: usize = 200;
+/// How often the sizes of a seed's recipes must be of each case; their refusals are those of flattening but 13.
+const LEAST_OF_A_SIZE: usize = 40;
 /// How many mutants the proved recipes must tell.
 const LEAST_TOLD_BY_PROVED: usize = 120;
 
@@ -71,6 +74,9 @@ struct Outcome {
     depths: BTreeMap<usize, usize>,
     /// In how many accepted recipes a side's names decide each count of underscores.
     underscores: BTreeMap<(Side, usize), usize>,
+    /// In how many accepted recipes the size is of each case, and the first recipe that tells each of its mutants from 02.
+    sizes: BTreeMap<&'static str, usize>,
+    sizers_told_by: Vec<Option<usize>>,
     /// The mutants that are tried, and for each the first recipe that tells it from 01.
     told_by: BTreeMap<usize, Option<usize>>,
 }
@@ -129,6 +135,7 @@ fn check_proved(samples: &[Sample], tally: &mut Tally) {
             .all(|(_, flatten)| writes_as_proved(sample, flatten));
         tally.add("the programs answer as is proved of a companion", agree);
     }
+    check_proved_sizes(tally);
     let verdicts = samples.iter().map(|sample| sample.verdict);
     let verdicts = verdicts.chain(tables.iter().map(|sample| sample.verdict));
     let numbers = verdicts.map(|v| Answer::from(v).number);
@@ -138,6 +145,24 @@ fn check_proved(samples: &[Sample], tally: &mut Tally) {
         .into_iter()
         .eq(ALL_NUMBERS.chain(NUMBERS_OF_FACTORS));
     tally.add("each number is proved of a recipe or table", is_whole);
+}
+
+/// The same for sizes, and how many of their mutants these tell.
+fn check_proved_sizes(tally: &mut Tally) {
+    let sizes = proved::sizes();
+    println!("{} sizes proved of them", sizes.len());
+    for SizeSample { recipe, size } in &sizes {
+        let agree = SIZERS.iter().all(|(_, sizer)| sizer(recipe) == *size);
+        tally.add("the programs answer as is proved of a size", agree);
+    }
+    let is_told = |rules: &sizers::Rules| {
+        let mut sizes = sizes.iter();
+        sizes.any(|sample| rules.table_size(&slow::elements(&sample.recipe)) != sample.size)
+    };
+    let mutants = sizers::MUTANTS.iter();
+    let not_told = mutants.filter(|(_, bend)| !is_told(&sizers::Rules::bent(*bend)));
+    let not_told: Vec<&str> = not_told.map(|(what, _)| *what).collect();
+    println!("  mutants of sizes that are not told by these: {not_told:?}");
 }
 
 /// The same for flattening with factors.
@@ -233,6 +258,9 @@ fn check(seed: u64) -> ExitCode {
         let wanted = Side::BOTH.into_iter().flat_map(counts);
         let is_mixed = are_often(&outcome.underscores, wanted, LEAST_OF_A_COUNT);
         tally.add("each side decides each count often enough", is_mixed);
+        let cases = sizers::CASES.iter().map(|(case, _)| *case);
+        let is_mixed = are_often(&outcome.sizes, cases, LEAST_OF_A_SIZE);
+        tally.add("each case of sizes is there often enough", is_mixed);
         outcomes.push(outcome);
     }
 
@@ -253,6 +281,13 @@ fn check(seed: u64) -> ExitCode {
     for (k, (what, _)) in MUTANTS.iter().enumerate() {
         let tried = outcomes.iter().filter_map(|o| o.told_by.get(&k));
         let told_by: Vec<usize> = tried.filter_map(|told_by| *told_by).collect();
+        println!("  {what}: {told_by:?}");
+        tally.add(what, !told_by.is_empty());
+    }
+    println!("{} mutants of sizes, told by them", sizers::MUTANTS.len());
+    for (k, (what, _)) in sizers::MUTANTS.iter().enumerate() {
+        let told_by = outcomes.iter().filter_map(|o| o.sizers_told_by[k]);
+        let told_by: Vec<usize> = told_by.collect();
         println!("  {what}: {told_by:?}");
         tally.add(what, !told_by.is_empty());
     }
@@ -316,6 +351,8 @@ impl Outcome {
             with_entries: 0,
             depths: BTreeMap::new(),
             underscores: BTreeMap::new(),
+            sizes: BTreeMap::new(),
+            sizers_told_by: vec![None; sizers::MUTANTS.len()],
             told_by: mutants.map(|k| (k, None)).collect(),
         }
     }
@@ -364,6 +401,7 @@ impl Outcome {
             }
         }
         self.count_factors(recipe);
+        self.add_size(recipe);
         let rooms = [room, random.pick(&companion_rooms(recipe, random))];
         let right = flattened(rooms, |table, companion| {
             recipe::flatten_with_factors(recipe, table, companion)
@@ -408,6 +446,23 @@ impl Outcome {
         }
     }
 
+    fn add_size(&mut self, recipe: &[u8]) {
+        let size = recipe::table_size(recipe);
+        let tree = slow::elements(recipe);
+        if let Ok(elements) = &tree {
+            let cases = sizers::CASES.iter();
+            for (case, _) in cases.filter(|(_, is_case)| is_case(elements, &size)) {
+                *self.sizes.entry(case).or_default() += 1;
+            }
+        }
+        for (told_by, (_, bend)) in self.sizers_told_by.iter_mut().zip(sizers::MUTANTS) {
+            let is_told = || sizers::Rules::bent(*bend).table_size(&tree) != size;
+            if told_by.is_none() && is_told() {
+                *told_by = Some(self.recipes);
+            }
+        }
+    }
+
     /// The count of underscores that a side's names decide least often, in words.
     fn rarest(&self, side: Side) -> String {
         let often = |count: usize| self.underscores.get(&(side, count)).copied().unwrap_or(0);
@@ -434,10 +489,12 @@ impl Outcome {
             factor_cases,
             with_entries,
             depths,
+            sizes,
             ..
         } = self;
         println!("  kind 8 in {with_kind_8}: {factor_cases:?}");
         println!("  entries in {with_entries}, with factors at the depths {depths:?}");
+        println!("  sizes: {sizes:?}");
         let [outer, inner] = Side::BOTH.map(|side| self.rarest(side));
         println!("  rarest count of underscores, decided by outer names: {outer}; by inner names: {inner}");
     }

@@ -1,4 +1,4 @@
-//! The other program: the table check, flattening and the walk back once more, written from documents 01 and 02 alone.
+//! The other program: the table check, flattening, its size and the walk back once more, written from documents 01 and 02 alone.
 //! `table` and `recipe` are the program; `rules` and `recipe::rules` are slow ones that can be bent.
 
 mod classes;
@@ -6,7 +6,7 @@ pub mod recipe;
 pub mod rules;
 pub mod table;
 
-use crate::bandrolt::{Answer, FactorsAnswer, Origin, TableAnswer};
+use crate::bandrolt::{Answer, FactorsAnswer, Origin, Size, TableAnswer};
 use std::array::from_fn;
 
 /// The length of a recipe's name field.
@@ -78,6 +78,16 @@ impl From<Result<(usize, usize), Refusal>> for FactorsAnswer {
         let entries = counted.map_or(0, |(_, entries)| entries as u64);
         let flat = Answer::from(counted.map(|(count, _)| count));
         FactorsAnswer { flat, entries }
+    }
+}
+
+impl From<Result<(usize, usize), Refusal>> for Size {
+    /// "Give survivors, bytes and the length of the survivors' longest flat name", with refusals "flattening's, all but
+    /// 13, with the same places and all three numbers 0".
+    fn from(sized: Result<(usize, usize), Refusal>) -> Self {
+        let longest = sized.map_or(0, |(_, longest)| longest as u64);
+        let flat = Answer::from(sized.map(|(count, _)| count));
+        Size { flat, longest }
     }
 }
 

@@ -1,5 +1,5 @@
 //! Recipes that follow from a seed: valid ones, nearly valid ones, and bytes that are none.
-//! `case` is the mix of them that the programs are compared on; `deep` has the longest ways to walk back.
+//! `case` is the mix of them that the programs are compared on; `deep` has the longest names, and ways to walk back.
 
 use super::aimed;
 use super::damage::{
@@ -36,7 +36,8 @@ pub fn case(random: &Random) -> Vec<u8> {
         10..=11 => with_factors(aimed::doubling(random), random).encode(),
         12..=15 => greatest(grown(random).encode(), random),
         16..=20 => damaged_bytes(grown(random).encode(), random),
-        21..=26 => grown(random).encode(),
+        21..=24 => grown(random).encode(),
+        25..=26 => deep(random),
         27..=31 => grown_from(aimed::prefixes, random).encode(),
         32..=34 => {
             let faults: &[Fault] = &[mark_on_two_levels, mark_on_two_levels, port_both_ways];

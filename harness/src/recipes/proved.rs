@@ -1,7 +1,7 @@
-//! The recipes, tables, walks back and companions that are proved of the definitions, read from the files that the prover reads.
+//! The recipes, tables, walks back, companions and sizes that are proved of the definitions, read from the files that the prover reads.
 //! Of antt this evaluates definitions by one equation, over numbers, names in quotes, and lists.
 
-use crate::bandrolt::{FactorsAnswer, Origin};
+use crate::bandrolt::{Answer, FactorsAnswer, Origin, Size};
 use crate::other::{Refusal, Route, Verdict, FIELD, NAME};
 use std::collections::HashMap;
 use std::iter::Peekable;
@@ -12,11 +12,13 @@ const SAMPLES: &str = concat!(
     include_str!("../../../crates/samples/specs/Samples.antt"),
     include_str!("../../../crates/samples/specs/Walks.antt"),
     include_str!("../../../crates/samples/specs/Companions.antt"),
+    include_str!("../../../crates/samples/specs/Sizes.antt"),
 );
 const PROOFS: &str = concat!(
     include_str!("../../../crates/samples/proofs/Starred.antt"),
     include_str!("../../../crates/samples/proofs/Walks.antt"),
     include_str!("../../../crates/samples/proofs/Companions.antt"),
+    include_str!("../../../crates/samples/proofs/Sizes.antt"),
 );
 
 /// A recipe, the length of the output, the verdict, and the flat table.
@@ -46,6 +48,12 @@ pub struct CompanionSample {
     pub rooms: [usize; 2],
     pub answer: FactorsAnswer,
     pub written: [Vec<u8>; 2],
+}
+
+/// A recipe, and its size.
+pub struct SizeSample {
+    pub recipe: Vec<u8>,
+    pub size: Size,
 }
 
 /// What is in the lists of which a proved statement says `every holds_of`.
@@ -120,6 +128,30 @@ pub fn companions() -> Vec<CompanionSample> {
             written: Default::default(),
         },
         _ => panic!("{made} makes no companion's sample"),
+    })
+}
+
+/// What is in the lists of which a proved statement says `every size_holds_of`.
+pub fn sizes() -> Vec<SizeSample> {
+    stated("size_holds_of", |made, of| match (made, of) {
+        ("measured", [recipe, count, bytes, longest]) => {
+            let [count, bytes, longest] = [count, bytes, longest].map(|n| n.number() as u64);
+            let flat = Answer {
+                number: 0,
+                place: 0,
+                count,
+                bytes,
+            };
+            SizeSample {
+                recipe: recipe.bytes(),
+                size: Size { flat, longest },
+            }
+        }
+        ("unmeasured", [recipe, number, place]) => SizeSample {
+            recipe: recipe.bytes(),
+            size: Err(refusal(number, place)).into(),
+        },
+        _ => panic!("{made} makes no size's sample"),
     })
 }
 
@@ -202,7 +234,7 @@ fn primitive(name: &str, of: &[Value]) -> Option<Value> {
         }
         (
             "refuses" | "gives" | "unclosed" | "closed" | "walked" | "unwalked" | "entered"
-            | "unentered",
+            | "unentered" | "measured" | "unmeasured",
             _,
         ) => Made(name.into(), of.to_vec()),
         _ => return None,

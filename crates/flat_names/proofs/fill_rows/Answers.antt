@@ -19,7 +19,7 @@ here c = turn c.requires.0 c.loop-i.invariant c.loop-i-test.true c.cell-m.ensure
 pub put_row-r-requires : goal.put_row-r-requires
 put_row-r-requires c =
     let g = here (goal.at.put_row-r-requires c).After-number_at-l in
-    (c.requires.0.measured.linked, (g.behind-is.submodel, (omega arith, omega arith)))
+    (c.requires.0.measured.linked, (g.longer-is.behind-is.submodel, (omega arith, omega arith)))
 
 pub overflow_cast-len : goal.overflow_cast-len
 overflow_cast-len c =

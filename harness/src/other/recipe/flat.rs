@@ -76,6 +76,17 @@ impl Flat {
         self.survivors.len()
     }
 
+    /// "the length of the survivors' longest flat name (0 if none)"
+    pub fn longest_name(&self) -> usize {
+        let prefixes = self.prefixes();
+        let lengths = self.survivors.iter().map(|survivor| {
+            let name = &self.tree.element(&self.recipe, survivor.element).name;
+            let (instance, _) = self.tree.elements[survivor.element];
+            prefixes[instance].len() + unpadded(name).len()
+        });
+        lengths.max().unwrap_or(0)
+    }
+
     pub fn write(&self, table: &mut [u8]) -> Result<(), Refusal> {
         let records = beginning(table, RECORD * self.count())?;
         self.write_table(records, &self.prefixes());

@@ -1,4 +1,4 @@
-//! The other program's flattening and walk back: 01 and 02 as one would write them in Rust, with hash maps for names.
+//! The other program's flattening, size and walk back: 01 and 02 as one would write them in Rust, with hash maps for names.
 //! It is what the library is compared with. `slow` stands beside it, and follows rules that can be bent.
 
 mod definitions;
@@ -8,13 +8,14 @@ mod marks;
 mod origin;
 mod records;
 pub mod rules;
+pub mod sizers;
 pub mod slow;
 mod targets;
 mod tree;
 pub mod walkers;
 
 use super::Refusal;
-use crate::bandrolt::{Answer, FactorsAnswer, Origin};
+use crate::bandrolt::{Answer, FactorsAnswer, Origin, Size};
 pub use flat::Flat;
 use marks::Fates;
 use targets::Targets;
@@ -52,6 +53,12 @@ pub fn flatten_with_factors(
         Ok((flat.count(), flat.entries()))
     });
     written.into()
+}
+
+/// How large the table will be.
+pub fn table_size(recipe: &[u8]) -> Size {
+    let sized = judge(recipe).map(|flat| (flat.count(), flat.longest_name()));
+    sized.into()
 }
 
 /// Where a flat name comes from.
