@@ -63,7 +63,9 @@ impl Arrays {
     }
 
     // The rooms that they are.
-    pub fn rooms(&mut self) -> Rooms<'_> {
+    pub fn rooms(&mut self) -> Rooms<'_>
+        ensures { (result.shadow.now ≡ self.old.shadow) × ((result.instances.now ≡ self.old.instances) × (result.elements.now ≡ self.old.elements)) }
+    {
         let Arrays {
             shadow,
             instances,
