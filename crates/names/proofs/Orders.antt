@@ -1,16 +1,17 @@
 -- The order of names is total, and how two names compare from an offset on. Assumes nothing.
-use mathlib.Core.Path.{◌≡◌, refl, sym, ◌∙◌}
+use mathlib.Core.Path.{◌≡◌, ap, refl, sym, ◌∙◌}
 use mathlib.Core.Logic.{◌⊎◌, inl, inr, ⊎_elim}
 use mathlib.Core.Bool.{true, false, false≢true, true≢false}
 use mathlib.Core.List.{List, [], ◌∷◌}
 use Prim.Native.Nat.{ℕ, ◌<◌}
 use native.Mathlib.Omega.{arith}
 use lib.Dec.{eqb, ltb}
-use borrow.Author.Tests.{eq-eqb, ne_eqb, lt-ltb, le-ltb, eqb-true, eqb-false, ltb-true, ltb-false}
-use Rattle.std.specs.Ordering.{nat_cmp, is_lt, is_gt, is_eq}
+use borrow.Author.Tests.{eq-eqb, ne_eqb, le-ltb, eqb-true, eqb-false, ltb-true, ltb-false}
+use Rattle.std.specs.Ordering.{nat_cmp, is_lt, is_gt, is_eq, ordering_reverse}
 use Rattle.std.specs.Cmp.Lexicographic.{slice_cmp}
 use Rattle.std.proofs.Common.{Ordering}
 use Rattle.std.proofs.lemmas.Bool.Decides.{nat_tests}
+use Rattle.std.proofs.lemmas.Cmp.{nat_list_cmp_total}
 use Rattle.names.specs.Lists.{same}
 use Rattle.names.specs.Order.{before}
 use Rattle.names.proofs.Tests.{by_cases, not-both, apart}
@@ -104,19 +105,13 @@ cmp-before (x ∷ xs) (y ∷ ys) =
     (λ e. rw (cmp-equal x y e, e) (cmp-before xs ys))
     (λ e. by_cases (ltb x y) (λ t. rw (e, t)) (λ t. rw (e, t)))
 
+reversed : (o : Ordering) → is_gt (ordering_reverse o) ≡ is_lt o
+reversed Ordering.Less = refl
+reversed Ordering.Equal = refl
+reversed Ordering.Greater = refl
+
 pub cmp-after : (a b : List ℕ) → is_gt (slice_cmp nat_cmp a b) ≡ before b a
-unfolding before
-cmp-after [] [] = refl
-cmp-after [] (y ∷ ys) = refl
-cmp-after (x ∷ xs) [] = refl
-cmp-after (x ∷ xs) (y ∷ ys) =
-    by_cases (eqb x y)
-    (λ e. rw (cmp-equal x y e, eq-eqb y x (sym (eqb-true x y e))) (cmp-after xs ys))
-    (λ e.
-    let n = λ (z : y ≡ x). eqb-false x y e (sym z) in
-    by_cases (ltb x y)
-    (λ t. rw (e, t, ne_eqb y x n, le-ltb y x (omega (arith, ltb-true x y t))))
-    (λ t. rw (e, t, ne_eqb y x n, lt-ltb y x (apart (ltb-false x y t) n))))
+cmp-after a b = ap is_gt (nat_list_cmp_total.antisymm a b) ∙ (reversed (slice_cmp nat_cmp b a) ∙ cmp-before b a)
 
 pub cmp-same : (a b : List ℕ) → is_eq (slice_cmp nat_cmp a b) ≡ same a b
 cmp-same [] [] = refl
