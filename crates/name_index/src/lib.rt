@@ -2,7 +2,7 @@
 // For the floors above: hash and hash_names; Records, the records with their keys; NameIndex, which build makes of them, and which answers find and first_repeat.
 #![tactic(auto)]
 
-ghost use Rattle.std.specs.Prelude.{◌≡◌, ◌∷◌, ◌+◌, ◌*◌, ◌/◌, ◌<◌, length, get_or};
+ghost use Rattle.std.specs.Prelude.{◌≡◌, ◌≤◌, ◌∷◌, ◌+◌, ◌*◌, ◌/◌, ◌<◌, length, get_or};
 ghost use Rattle.std.specs.Ordering.{is_lt, nat_cmp};
 ghost use Rattle.std.specs.Cmp.Lexicographic.{slice_cmp};
 ghost use Rattle.names.specs.Lists.{same};
@@ -213,11 +213,12 @@ impl<'a> Records<'a> {
 impl<'a> NameIndex<'a> {
     ghost use Rattle.name_index.specs.Positions.{count, entry};
 
-    // The index of the records, by a place for each.
+    // The index of the records, in as many of the places lent.
     pub fn build(records: Records<'a>, order: &'a mut [u16]) -> NameIndex<'a>
-        requires { (length order.old ≡ count records) × (length order.old < 65536) }
+        requires { (count records ≤ length order.old) × (count records < 65536) }
         ensures { result.records ≡ records.entry }
     {
+        let order = &mut order[..records.keys.len()];
         records.sort(order);
         NameIndex { records, order }
     }

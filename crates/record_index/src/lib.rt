@@ -158,7 +158,7 @@ impl<'a> RecordIndex<'a> {
             },
             keys: &keys[..n],
         };
-        let names = NameIndex::build(records, &mut order[..n]);
+        let names = NameIndex::build(records, order);
         RecordIndex {
             source: s,
             at: &at[..n],
