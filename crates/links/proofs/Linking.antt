@@ -63,13 +63,15 @@ module _ (s : Recipe) (p : ℕ) {q : ℕ} (g : FieldAt s (parent_field s p) q) {
     parent-there er ed ez = rw ((element-in s p (parent_field s p) y there).0, there, ez, ed, ec, er)
 
 -- ---- what a record names, or that row 5 refuses it
+pub refused : {b : Bool} (l : Links) {o : Option Links} → cond b None (Some l) ≡ o → b ≡ true → None ≡ o
+refused l e h = rw h at e
+
 pub passed : {b : Bool} (l : Links) {o : Option Links} → cond b None (Some l) ≡ o → b ≡ false → Some l ≡ o
 passed l e h = rw h at e
 
--- the second of two look-ups is missing
-pub missing : (f : Option ℕ → Links) (a : Option ℕ) {o : Option Links} → cond (not (is_some a) || true) None (Some (f a)) ≡ o → None ≡ o
-missing f None e = e
-missing f (Some x) e = e
+-- one of two look-ups is missing
+pub either : (a o : Option ℕ) (b d : Bool) → is_some a ≡ not b → is_some o ≡ not d → not (is_some a) || not (is_some o) ≡ b || d
+either a o b d e f = rw (e, f) (by_cases b (λ t. rw t) (λ t. rw t (by_cases d (λ u. rw u) (λ u. rw u))))
 
 -- of a look-up that must find
 taken : (f : Option ℕ → Links) (o : Option ℕ) → option_map (λ x. f (Some x)) o ≡ cond (not (is_some o)) None (Some (f o))

@@ -34,7 +34,7 @@ use Rattle.links.specs.Held.{its_recipe, its_field, ReadsAs, SoughtAt}
 use Rattle.links.specs.Links.{OptionalAt, Unowned, links, links_of}
 use Rattle.links.specs.declared.Held.{Held}
 use Rattle.links.proofs.Fields.{FieldAt, blank-at, ReadRight, sought, optional-at, name-at, filled, read_right, parent-at, reference-at, class-is, model_at, scaled_at, time-at, extent-at, submodel-at, target-at-field, owner_at, parent-reads, reference-reads, model-reads, time-reads, extent-reads, mark-submodel-reads, way-reads, target-reads, pointing-reads, way-element, way-port, target-way}
-use Rattle.links.proofs.Linking.{by-element-links, missing, owned-links, element-blank, element-filled, owned-mark, mark-begins, port-begins, port-points, pointing-points, pointing-filled}
+use Rattle.links.proofs.Linking.{by-element-links, owned-links, element-blank, element-filled, owned-mark, mark-begins, port-begins, port-points, pointing-points, pointing-filled}
 
 pub among-placed : (p : ℕ) (ps : List ℕ) → In p ps → among p ps ≡ true
 among-placed p ps i = among-any p ps ∙ any-in (eqb p) ps p i (eq-eqb p p refl)
@@ -159,19 +159,9 @@ module _ (h : Held) where
     pub mark-named : is_name (submodel_field s p) ≡ true
     mark-named = mark-submodel-reads s p placed formed (owned-mark s p o)
 
-    either : {a o : Option ℕ} → o ≡ element_in s p (its_field h m.owner) → a ≡ record_named s 4 h.definition (text (its_field h m.submodel))
+    pub mark-links : {a o : Option ℕ} → o ≡ element_in s p (its_field h m.owner) → a ≡ record_named s 4 h.definition (text (its_field h m.submodel))
         → cond (not (is_some a) || not (is_some o)) None (Some (links o a None)) ≡ links_of s p
-    either eo ea = owned-links s p h.held mark-here ea o mark-named (first-name s formed p placed) owner-here eo
-
-    pub mark-ownerless : None ≡ element_in s p (its_field h m.owner) → None ≡ links_of s p
-    mark-ownerless eo = missing (λ a. links None a None) (record_named s 4 h.definition (text (its_field h m.submodel))) (either eo refl)
-
-    module _ {x : ℕ} (eo : Some x ≡ element_in s p (its_field h m.owner)) where
-      pub mark-submodelless : None ≡ record_named s 4 h.definition (text (its_field h m.submodel)) → None ≡ links_of s p
-      mark-submodelless ea = either eo ea
-
-      pub mark-links : {y : ℕ} → Some y ≡ record_named s 4 h.definition (text (its_field h m.submodel)) → Some (links (Some x) (Some y) None) ≡ links_of s p
-      mark-links ea = either eo ea
+    mark-links eo ea = owned-links s p h.held mark-here ea o mark-named (first-name s formed p placed) owner-here eo
 
     pub mark-asked : {k : Kind} → kind_byte k ≤ 4 → SoughtAt h k m.submodel
     mark-asked l = sought-here mark-here mark-named l

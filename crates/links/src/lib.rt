@@ -194,11 +194,14 @@ impl<'a> Held<'a> {
         requires { (owned_kind (kind (its_recipe self.now) self.now.place) ≡ true) × (m ≡ mark_fields (its_recipe self.now) self.now.place) }
         ensures { result ≡ links_of (its_recipe self.now) self.now.place }
     {
-        let owner = self.find_element(m.owner)?;
-        let submodel = self.find(Kind::Submodel, m.submodel)?;
+        let owner = self.find_element(m.owner);
+        let submodel = self.find(Kind::Submodel, m.submodel);
+        if submodel.is_none() | owner.is_none() {
+            return None;
+        }
         Some(Links {
-            upper: Some(owner),
-            lower: Some(submodel),
+            upper: owner,
+            lower: submodel,
             own: None,
         })
     }

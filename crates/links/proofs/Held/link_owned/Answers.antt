@@ -1,24 +1,21 @@
 -- `Held::link_owned` meets its contract: by its owner and its submodel.
 -- Assumes nothing.
-use mathlib.Core.Path.{sym, ◌∙◌}
+use mathlib.Core.Path.{◌∙◌}
 use native.Mathlib.Omega.{arith}
-use Rattle.links.proofs.Looking.{mark-asked, mark-links, mark-ownerless, mark-submodelless, owner-asked}
+use Rattle.links.proofs.Linking.{either, refused, passed}
+use Rattle.links.proofs.Looking.{mark-asked, mark-links, owner-asked}
 use Rattle.links.proofs.Held.link_owned.Goals as goal
 
-pub find_element-requires : goal.find_element-requires
-find_element-requires c = owner-asked c.args.self.now c.requires.0 c.requires.1
+pub find_element-owner-requires : goal.find_element-owner-requires
+find_element-owner-requires c = owner-asked c.args.self.now c.requires.0 c.requires.1
 
-pub returns-in_err-owner : goal.returns-in_err-owner
-returns-in_err-owner c =
-    c.from_residual.ensures ∙ mark-ownerless c.args.self.now c.requires.0 c.requires.1 (sym c.in_err-owner.was ∙ c.find_element.ensures)
+pub find-submodel-requires : goal.find-submodel-requires
+find-submodel-requires c = mark-asked c.args.self.now c.requires.0 c.requires.1 (omega arith)
 
-pub find-requires : goal.find-requires
-find-requires c = mark-asked c.args.self.now c.requires.0 c.requires.1 (omega arith)
-
-pub returns-in_err-submodel : goal.returns-in_err-submodel
-returns-in_err-submodel c =
-    c.from_residual-in_err-submodel.ensures ∙ mark-submodelless c.args.self.now c.requires.0 c.requires.1 (sym c.in_ok-owner.was ∙ c.find_element.ensures) (sym c.in_err-submodel.was ∙ c.find.ensures)
+pub returns-then-is_none : goal.returns-then-is_none
+returns-then-is_none c =
+    refused _ (mark-links c.args.self.now c.requires.0 c.requires.1 c.find_element-owner.ensures c.find-submodel.ensures) (either _ _ _ _ c.is_none.ensures c.is_none-2.ensures ∙ c.if-is_none.true)
 
 pub returns : goal.returns
 returns c =
-    mark-links c.args.self.now c.requires.0 c.requires.1 (sym c.in_ok-owner.was ∙ c.find_element.ensures) (sym c.in_ok-submodel.was ∙ c.find.ensures)
+    passed _ (mark-links c.args.self.now c.requires.0 c.requires.1 c.find_element-owner.ensures c.find-submodel.ensures) (either _ _ _ _ c.is_none.ensures c.is_none-2.ensures ∙ c.if-is_none.false)
