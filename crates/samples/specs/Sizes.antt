@@ -43,6 +43,8 @@ size_samples =
     -- the longest name may be that of an element of main, and the first
     ∷ measured (pair (element "longest" 3 "" "") []) 3 615 7
     ∷ measured (model "top" ++ element "longest" 3 "" "" ++ element "c" 1 "" "") 2 410 7
+    -- or of one in a later instance of its definition
+    ∷ measured (model "top" ++ submodel "a" "cell" ++ submodel "bcd" "cell" ++ (model "cell" ++ element "v" 3 "" "")) 2 410 6
     -- the whole name, with a prefix of thirteen
     ∷ measured (pair (element "a___________" 3 "" "") []) 3 615 14
     -- four prefixes of 14 and a name of 12
