@@ -23,13 +23,13 @@ use targets::Tree;
 use tree::Size;
 
 // The shadow has a cell for each byte of a recipe.
-const SHADOW_CELLS: usize = 16384;
+pub const SHADOW_CELLS: usize = 16384;
 
 // Six for each of 64 instances.
-const INSTANCE_CELLS: usize = 384;
+pub const INSTANCE_CELLS: usize = 384;
 
 // Five for each of 1,024 elements.
-const ELEMENT_CELLS: usize = 5120;
+pub const ELEMENT_CELLS: usize = 5120;
 
 // The rooms that composing fills, lent.
 #[derive(Drop)]
@@ -133,7 +133,7 @@ fn judge_marks(tree: &Tree, elems: usize, el: &mut [u16]) -> Result<(), Refusal>
     requires { (elems ≡ length (tree_elements (recipe_of tree.now))) × (5 * 1024 ≤ length el.old) }
     ensures { (result_err result ≡ judged (mark_rows (recipe_of tree.now) ++ reference_rows (recipe_of tree.now))) × OnOk result (Composed (recipe_of tree.now) tree.now.shadow.now tree.now.instances.now el.new (length (instances (recipe_of tree.now))) elems) }
 {
-    let mut cells = [false; marks::CELLS];
+    let mut cells = [0u8; marks::CELLS];
     names::judge(Reason::Conflicting, marks::first_conflict(tree, &mut cells))?;
     names::judge(
         Reason::Misclassed,

@@ -142,7 +142,7 @@ module _ (s : Recipe) (h₅ : fault₅ s ≡ None) (h₇ : fault₇ s ≡ None) 
     sets-law = ⊎_elim port-case (⊎_elim by-case mark-case) (sorts s q.place (pointer-placed s q i).passes)
 
   -- the two cells say whether an element is marked as gone
-  pub marked-law : (t : List Bool) → AllStamped s t → (x : Node) → In x (tree_elements s)
+  pub marked-law : (t : List ℕ) → AllStamped s t → (x : Node) → In x (tree_elements s)
       → is_set t (owner_cell (number s x)) || is_set t (gone_cell (number s x)) ≡ is_marked_gone s x
   unfolding is_marked_gone
   marked-law t S x j =
@@ -156,7 +156,7 @@ module _ (s : Recipe) (h₅ : fault₅ s ≡ None) (h₇ : fault₇ s ≡ None) 
       ∙ marks-any (λ r. removes s x r || owns_by s x r)
 
 -- ---- an element and its parent
-module _ {s : Recipe} {t : List ℕ} {cells : List Bool} (A : Aimed s t) (h₇ : fault₇ s ≡ None) (S : AllStamped s cells) {e q : ℕ} (E : Element s e q) where
+module _ {s : Recipe} {t cells : List ℕ} (A : Aimed s t) (h₇ : fault₇ s ≡ None) (S : AllStamped s cells) {e q : ℕ} (E : Element s e q) where
   abbrev x : Node
   x = E.it
 

@@ -16,7 +16,6 @@ ghost use Rattle.elements.specs.Gone.{Element, GoneAt};
 ghost use Rattle.elements.specs.Listing.{Listed, Only};
 ghost use Rattle.elements.specs.Steps.{NoSteps, Went, stepped};
 
-use marks::CELLS;
 use recipe::{Kind, Records};
 use shadow::{ELEMENT_ORDER, PARENT, TARGET_NUMBER, cell, set_cell};
 use targets::{Aims, Tree};
@@ -27,9 +26,9 @@ pub const RECORD: usize = 0;
 
 pub const INSTANCE: usize = 1;
 
-const GONE: usize = 2;
+pub const GONE: usize = 2;
 
-const CHAIN_NEXT: usize = 3;
+pub const CHAIN_NEXT: usize = 3;
 
 // Whether the element of number e is gone, by its row.
 pub fn is_gone(el: &[u16], e: usize) -> bool
@@ -82,16 +81,16 @@ pub fn list_elements(tree: &Tree, el: &mut [u16])
 }
 
 // Whether the element of number e is marked as gone, by its cells.
-fn is_marked(cells: &[bool; CELLS], e: usize) -> bool
-    requires { e < 1024 }
+fn is_marked(cells: &[u8], e: usize) -> bool
+    requires { (length cells.now ≡ 12 * 1024) × (e < 1024) }
     ensures { result ≡ is_set cells.now (owner_cell e) || is_set cells.now (gone_cell e) }
 {
-    cells[12 * e] | cells[12 * e + 11]
+    (cells[12 * e] != 0) | (cells[12 * e + 11] != 0)
 }
 
 // Whether the element of number e, at place q, is gone: marked so itself, or a child of one that is.
-fn goes(aims: &Aims, cells: &[bool; CELLS], e: usize, q: usize) -> bool
-    requires { AllStamped (aimed_recipe aims.now) cells.now × Element (aimed_recipe aims.now) e q }
+fn goes(aims: &Aims, cells: &[u8], e: usize, q: usize) -> bool
+    requires { AllStamped (aimed_recipe aims.now) cells.now × ((length cells.now ≡ 12 * 1024) × Element (aimed_recipe aims.now) e q) }
     ensures { GoneAt (aimed_recipe aims.now) e result }
 {
     if is_marked(cells, e) {
@@ -106,8 +105,8 @@ fn goes(aims: &Aims, cells: &[bool; CELLS], e: usize, q: usize) -> bool
 }
 
 // Marks the elements of the tree, of which there are `elems`, by 1 where they are gone, and the others by 0.
-pub fn mark_gone(aims: &Aims, cells: &[bool; CELLS], el: &mut [u16], elems: usize)
-    requires { AllStamped (aimed_recipe aims.now) cells.now × (ElementRows (aimed_recipe aims.now) el.old × (elems ≡ length (tree_elements (aimed_recipe aims.now)))) }
+pub fn mark_gone(aims: &Aims, cells: &[u8], el: &mut [u16], elems: usize)
+    requires { AllStamped (aimed_recipe aims.now) cells.now × ((length cells.now ≡ 12 * 1024) × (ElementRows (aimed_recipe aims.now) el.old × (elems ≡ length (tree_elements (aimed_recipe aims.now))))) }
     ensures { Gones (aimed_recipe aims.now) el.new × Only 2 el.old el.new }
 {
     for e in 0..elems {

@@ -48,7 +48,7 @@ within_none a c = within-is a 0 c false (λ e. absurd (false≢true e)) (λ x y.
 
 -- ---- the cells that some records set
 module _ (s : Recipe) where
-  pub stamped-same : (t : List Bool) (D E : Node → Type 0) → ((q : Node) → In q (nodes s (is_pointer s)) → E q → D q) → ((q : Node) → In q (nodes s (is_pointer s)) → D q → E q)
+  pub stamped-same : (t : List ℕ) (D E : Node → Type 0) → ((q : Node) → In q (nodes s (is_pointer s)) → E q → D q) → ((q : Node) → In q (nodes s (is_pointer s)) → D q → E q)
       → Stamped s D t → Stamped s E t
   unfolding tree_pointers
   stamped-same t D E f g h = record {
@@ -57,20 +57,20 @@ module _ (s : Recipe) where
   }
 
   -- no cell is set
-  pub stamped-none : (n : ℕ) {u : List Bool} → u ≡ replicate n false → Stamped s (λ q. q.place < 0) u × (length u ≡ n)
+  pub stamped-none : (n : ℕ) {u : List ℕ} → u ≡ replicate n 0 → Stamped s (λ q. q.place < 0) u × (length u ≡ n)
   stamped-none n z = rw z (record { has = λ q i e. absurd (omega arith); only = λ c e. not-both e (unset n c) }, long n)
     where
-      long : (m : ℕ) → length {A = Bool} (replicate m false) ≡ m
+      long : (m : ℕ) → length {A = ℕ} (replicate m 0) ≡ m
       long zero = refl
       long (suc m) = ap suc (long m)
 
-      unset : (m k : ℕ) → is_set (replicate m false) k ≡ false
+      unset : (m k : ℕ) → is_set (replicate m 0) k ≡ false
       unset zero k = refl
       unset (suc m) zero = refl
       unset (suc m) (suc k) = unset m k
 
   -- one record more
-  pub stamped-one : (t t' : List Bool) (D : Node → Type 0) (x : Node) → In x (tree_pointers s) → ((c : ℕ) → is_set t' c ≡ is_set t c || among c (stamps s x)) → Stamped s D t
+  pub stamped-one : (t t' : List ℕ) (D : Node → Type 0) (x : Node) → In x (tree_pointers s) → ((c : ℕ) → is_set t' c ≡ is_set t c || among c (stamps s x)) → Stamped s D t
       → Stamped s (λ q. D q ⊎ (q ≡ x)) t'
   stamped-one t t' D x i e h = record {
     has = λ q j d c m. e c
@@ -82,7 +82,7 @@ module _ (s : Recipe) where
   }
 
   -- a cell is set by a record that D says: b is the test for D
-  pub stamped-any : (t : List Bool) (D : Node → Type 0) (b : Node → Bool) → ((q : Node) → D q → b q ≡ true) → ((q : Node) → b q ≡ true → D q) → Stamped s D t
+  pub stamped-any : (t : List ℕ) (D : Node → Type 0) (b : Node → Bool) → ((q : Node) → D q → b q ≡ true) → ((q : Node) → b q ≡ true → D q) → Stamped s D t
       → (c : ℕ) → is_set t c ≡ any (λ q. b q && among c (stamps s q)) (tree_pointers s)
   stamped-any t D b f g h c =
       let F : Node → Bool = λ q. b q && among c (stamps s q) in
@@ -93,7 +93,7 @@ module _ (s : Recipe) where
       h.has r.0 r.1 (g r.0 (and_left (b r.0) _ r.2)) c (and_right (b r.0) _ r.2))
 
   -- the cells of a range are set by the earlier records whose stamps lie in it
-  any-set : (p : ℕ) (t : List Bool) → Stamped s (λ q. q.place < p) t → (a n : ℕ)
+  any-set : (p : ℕ) (t : List ℕ) → Stamped s (λ q. q.place < p) t → (a n : ℕ)
       → any_set t a n ≡ any (λ q. ltb q.place p && any (within a n) (stamps s q)) (tree_pointers s)
   unfolding any_set
   any-set p t h a zero =
@@ -114,7 +114,7 @@ module _ (s : Recipe) where
       ∙ any-cong (λ c. eqb a c || within (suc a) n c) (within a (suc n)) (stamps s q) (λ c j. sym (within-cons a n c))))
 
   -- what a record finds set, among the cells that it asks, is a conflict with an earlier one
-  pub query : fault₅ s ≡ None → fault₇ s ≡ None → fault₈ s ≡ None → (p : ℕ) (t : List Bool) → Stamped s (λ q. q.place < p) t
+  pub query : fault₅ s ≡ None → fault₇ s ≡ None → fault₈ s ≡ None → (p : ℕ) (t : List ℕ) → Stamped s (λ q. q.place < p) t
       → (r : Node) → In r (tree_pointers s) → (a n a' n' : ℕ) → ((c : ℕ) → asks s r c ≡ within a n c || within a' n' c)
       → any (λ q. ltb q.place p && conflict s q r) (tree_pointers s) ≡ any_set t a n || any_set t a' n'
   query h₅ h₇ h₈ p t h r i a n a' n' e =

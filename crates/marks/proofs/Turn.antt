@@ -71,21 +71,21 @@ module _ (s : Recipe) where
   owner-number r h = ap (λ (d : ℕ). first_at s r.path + order s d (owner_of s r.place)) (sym (pointer-holder s r h))
 
 -- ---- cells after a store
-set-cell : (t : List Bool) (a c : ℕ) → a < length t → is_set (set t a true) c ≡ is_set t c || eqb c a
+set-cell : (t : List ℕ) (a c : ℕ) → a < length t → is_set (set t a 1) c ≡ is_set t c || eqb c a
 set-cell t a c h =
     by_cases (eqb c a)
-    (λ e. let q = eqb-true c a e in rw (e, q, get_or-set_same t a true false h) (sym (or-true (is_set t a))))
-    (λ e. rw (e, get_or-set_other t a c true false (eqb-false c a e)) (sym (or-false (is_set t c))))
+    (λ e. let q = eqb-true c a e in rw (e, q, get_or-set_same t a 1 0 h) (sym (or-true (is_set t a))))
+    (λ e. rw (e, get_or-set_other t a c 1 0 (eqb-false c a e)) (sym (or-false (is_set t c))))
 
-set-two : (t : List Bool) (a b c : ℕ) → a < length t → b < length t → is_set (set (set t a true) b true) c ≡ is_set t c || among c (a ∷ b ∷ [])
+set-two : (t : List ℕ) (a b c : ℕ) → a < length t → b < length t → is_set (set (set t a 1) b 1) c ≡ is_set t c || among c (a ∷ b ∷ [])
 set-two t a b c h k =
-    set-cell (set t a true) b c (omega (arith, length-set t a true))
+    set-cell (set t a 1) b c (omega (arith, length-set t a 1))
     ∙ ap (λ (z : Bool). z || eqb c b) (set-cell t a c h)
     ∙ or_assoc (is_set t c) (eqb c a) (eqb c b)
     ∙ ap (λ (z : Bool). is_set t c || z) (sym (among_two c a b))
 
 -- a store keeps the length
-pub stamped-length : (k e o d : ℕ) (t : List Bool) {t' : List Bool} → t' ≡ stamped t k e o d → length t' ≡ length t
+pub stamped-length : (k e o d : ℕ) (t : List ℕ) {t' : List ℕ} → t' ≡ stamped t k e o d → length t' ≡ length t
 unfolding stamped
 stamped-length k e o d t q =
     ap length q
@@ -204,7 +204,7 @@ module _ {s : Recipe} {t inst : List ℕ} {insts : ℕ} (T : Targeted s t inst i
       }
 
       -- the test of the cells is the test for a conflict with an earlier record
-      pub meets-law : (u : List Bool) → Stamped s (λ q. q.place < p) u → meets u k (f + e) (f + o) d ≡ any (λ q. ltb q.place p && conflict s q (it i)) (tree_pointers s)
+      pub meets-law : (u : List ℕ) → Stamped s (λ q. q.place < p) u → meets u k (f + e) (f + o) d ≡ any (λ q. ltb q.place p && conflict s q (it i)) (tree_pointers s)
       unfolding meets asks is_port is_replaced_by kind node
       meets-law u h =
           let Q = query s T.planted.measured.linked.row₅ T.planted.row₇ T.aimed.row₈ p u h (it i) ptr in
@@ -228,7 +228,7 @@ module _ {s : Recipe} {t inst : List ℕ} {insts : ℕ} (T : Targeted s t inst i
       unfolding stamps is_port is_replaced_by kind node mark_cell gone_cell
       stamps-other a b = rw (sym w.kind-is, a, b, aim-eq, depth-eq)
 
-      pub stamped-law : (u : List Bool) (c : ℕ) → length u ≡ 12 * 1024 → is_set (stamped u k (f + e) (f + o) d) c ≡ is_set u c || among c (stamps s (it i))
+      pub stamped-law : (u : List ℕ) (c : ℕ) → length u ≡ 12 * 1024 → is_set (stamped u k (f + e) (f + o) d) c ≡ is_set u c || among c (stamps s (it i))
       stamped-law u c l =
           let F = fits in
           by_cases (port_kind k)
@@ -243,7 +243,7 @@ module _ {s : Recipe} {t inst : List ℕ} {insts : ℕ} (T : Targeted s t inst i
           rw (← stamped-other u k (f + e) (f + o) d a (mark-is a) b, stamps-other a b) (set-two u (12 * (f + e) + (5 - d)) (12 * (f + e) + 11) c (omega arith) (omega arith))))
 
       -- one instance more has set its cells
-      pub entered : (u : List Bool) (D : Node → Type 0) → length u ≡ 12 * 1024 → Stamped s D u → Stamped s (λ q. D q ⊎ (q ≡ it i)) (stamped u k (f + e) (f + o) d)
+      pub entered : (u : List ℕ) (D : Node → Type 0) → length u ≡ 12 * 1024 → Stamped s D u → Stamped s (λ q. D q ⊎ (q ≡ it i)) (stamped u k (f + e) (f + o) d)
       entered u D l S = stamped-one s u (stamped u k (f + e) (f + o) d) D (it i) ptr (λ c. stamped-law u c l) S
 
   -- ---- instance i: x is what is read of the record, y the same in the instance
@@ -255,7 +255,7 @@ module _ {s : Recipe} {t inst : List ℕ} {insts : ℕ} (T : Targeted s t inst i
     step-fits = rw e (fits read refl)
 
     -- the test of its cells
-    module _ {u : List Bool} {m : Bool} (S : Stamped s (λ q. q.place < p) u) (met : m ≡ meets u y.kind y.target y.owner y.depth) where
+    module _ {u : List ℕ} {m : Bool} (S : Stamped s (λ q. q.place < p) u) (met : m ≡ meets u y.kind y.target y.owner y.depth) where
       pub step-clash : clash s p (it i) ≡ m
       step-clash = sym (meets-law read refl u S) ∙ sym (rw e at met)
 
@@ -264,9 +264,9 @@ module _ {s : Recipe} {t inst : List ℕ} {insts : ℕ} (T : Targeted s t inst i
       check-hit b = sym (found-one s (is_pointer s) p (clash s p) (it i) (ptr read) refl (step-clash ∙ b))
 
     -- its cells are set
-    step-entered : (u : List Bool) (D : Node → Type 0) → length u ≡ 12 * 1024 → Stamped s D u → Stamped s (λ q. D q ⊎ (q ≡ it i)) (stamped u y.kind y.target y.owner y.depth)
+    step-entered : (u : List ℕ) (D : Node → Type 0) → length u ≡ 12 * 1024 → Stamped s D u → Stamped s (λ q. D q ⊎ (q ≡ it i)) (stamped u y.kind y.target y.owner y.depth)
     step-entered u D l S = rw e (entered read refl u D l S)
 
-    pub enter-turn : {a b : InstancesOf} (u : List Bool) {u' : List Bool} → length u ≡ 12 * 1024 → u' ≡ stamped u y.kind y.target y.owner y.depth
+    pub enter-turn : {a b : InstancesOf} (u : List ℕ) {u' : List ℕ} → length u ≡ 12 * 1024 → u' ≡ stamped u y.kind y.target y.owner y.depth
         → Following s inst p (λ D. Stamped s D u) a → StepsTo a (Some i) b → Following s inst p (λ D. Stamped s D u') b
     enter-turn u {u'} l q g z = follow-on T p here (is_pointer s) (λ D. Stamped s D u') (stamped-same s u') g z (λ S. rw q (step-entered u (Done s p i) l S))

@@ -1,6 +1,6 @@
 -- The cells of an element, which marks and ports set and ask, and what one record does to the cells.
 -- Assumes nothing.
-use Rattle.std.specs.Prelude.{◌*◌, ◌+◌, ◌-◌, suc, zero, ℕ, leb, ltb, get_or, length, set, Bool, ◌&&◌, ◌||◌, cond, false, true, List, [], ◌∷◌, ◌≡◌, None, Some}
+use Rattle.std.specs.Prelude.{◌*◌, ◌+◌, ◌-◌, suc, zero, ℕ, leb, ltb, eqb, not, get_or, length, set, Bool, ◌&&◌, ◌||◌, cond, false, true, List, [], ◌∷◌, ◌≡◌, None, Some}
 use Rattle.names.specs.Lists.{In, among}
 use Rattle.recipe.specs.Records.{Recipe, is_port, is_replaced_by, port_kind, replaced_by_kind, mark_kind}
 use Rattle.tree.specs.Numbers.{number}
@@ -49,33 +49,33 @@ asks s r c =
     (within (12 * aim_number s r) (7 + length r.path) c || within 0 0 c))
 
 -- a cell is set
-abbrev pub is_set : List Bool → ℕ → Bool
-is_set t c = get_or t c false
+abbrev pub is_set : List ℕ → ℕ → Bool
+is_set t c = not (eqb (get_or t c 0) 0)
 
 -- one of n cells from a on is set
-unfoldable pub any_set : List Bool → ℕ → ℕ → Bool
+unfoldable pub any_set : List ℕ → ℕ → ℕ → Bool
 any_set t a zero = false
 any_set t a (suc n) = is_set t a || any_set t (suc a) n
 
 -- the cells are those that the marks and ports set that D says, and no other
-pub record Stamped (s : Recipe) (D : Node → Type 0) (t : List Bool) : Type 0 where
+pub record Stamped (s : Recipe) (D : Node → Type 0) (t : List ℕ) : Type 0 where
   pub has : (q : Node) → In q (tree_pointers s) → D q → (c : ℕ) → among c (stamps s q) ≡ true → is_set t c ≡ true
   pub only : (c : ℕ) → is_set t c ≡ true → (q : Node) × (In q (tree_pointers s) × (D q × (among c (stamps s q) ≡ true)))
 
 -- all of them
-abbrev pub AllStamped : Recipe → List Bool → Type 0
+abbrev pub AllStamped : Recipe → List ℕ → Type 0
 AllStamped s t = Stamped s (λ q. Unit {0}) t
 
 -- a cell that a record of kind k asks is set: e its target's number, o its owner's, d its depth
-unfoldable pub meets : List Bool → ℕ → ℕ → ℕ → ℕ → Bool
+unfoldable pub meets : List ℕ → ℕ → ℕ → ℕ → ℕ → Bool
 meets t k e o d =
     cond (port_kind k) (any_set t (12 * e) (6 - d) || any_set t (port_cell e d) 1)
     (cond (replaced_by_kind k) (any_set t (12 * e) (7 + d) || any_set t (12 * o + 1) 10)
     (cond (mark_kind k) (any_set t (12 * e) (7 + d) || any_set t 0 0) false))
 
 -- its cells set
-unfoldable pub stamped : List Bool → ℕ → ℕ → ℕ → ℕ → List Bool
+unfoldable pub stamped : List ℕ → ℕ → ℕ → ℕ → ℕ → List ℕ
 stamped t k e o d =
-    cond (port_kind k) (set t (port_cell e d) true)
-    (cond (replaced_by_kind k) (set (set t (mark_cell e d) true) (owner_cell o) true)
-    (cond (mark_kind k) (set (set t (mark_cell e d) true) (gone_cell e) true) t))
+    cond (port_kind k) (set t (port_cell e d) 1)
+    (cond (replaced_by_kind k) (set (set t (mark_cell e d) 1) (owner_cell o) 1)
+    (cond (mark_kind k) (set (set t (mark_cell e d) 1) (gone_cell e) 1) t))

@@ -2,7 +2,7 @@
 // For the floors above: first_conflict, owner_order, and the cells that it fills. They take the tree.
 #![tactic(auto)]
 
-ghost use Rattle.std.specs.Prelude.{◌≡◌, true, false, ◌*◌, ◌+◌, ◌≤◌, ◌<◌, length, get_or, replicate};
+ghost use Rattle.std.specs.Prelude.{◌≡◌, true, not, eqb, ◌*◌, ◌+◌, ◌≤◌, ◌<◌, length, get_or, replicate};
 ghost use Rattle.std.specs.List.{list_any};
 ghost use Rattle.names.specs.Lists.{In};
 ghost use Rattle.recipe.specs.Records.{places, is_pointer, next, owned_kind, replaced_by_kind};
@@ -32,10 +32,10 @@ pub fn owner_order(t: &[u16], p: usize, k: u8) -> usize
 }
 
 // One of the cells is set.
-fn any_set(cells: &[bool]) -> bool
-    ensures { result ≡ list_any (λ b. b) cells.now }
+fn any_set(cells: &[u8]) -> bool
+    ensures { result ≡ list_any (λ b. not (eqb b 0)) cells.now }
 {
-    cells.iter().any(|x| *x)
+    cells.iter().any(|x| *x != 0)
 }
 
 // A mark or port in one instance: its kind, the numbers of its target and, if it has one, its owner, and its depth.
@@ -79,13 +79,13 @@ impl Pointer {
 
     // A cell that it asks is set.
     #[tactic(auto, using(crate::proofs::Records::any_slice), unfolding(crate::specs::Cells::meets, crate::specs::Cells::port_cell, crate::specs::Cells::any_set))]
-    fn meets_any(self, cells: &[bool; CELLS]) -> bool
-        requires { InCells self }
+    fn meets_any(self, cells: &[u8]) -> bool
+        requires { InCells self × (length cells.now ≡ 12 * 1024) }
         ensures { result ≡ meets cells.now self.kind self.target self.owner self.depth }
     {
         let e = 12 * self.target;
         if recipe::is_port(self.kind) {
-            return any_set(&cells[e..e + (6 - self.depth)]) || cells[e + (6 + self.depth)];
+            return any_set(&cells[e..e + (6 - self.depth)]) || cells[e + (6 + self.depth)] != 0;
         }
         if !recipe::is_mark(self.kind) {
             return false;
@@ -97,30 +97,30 @@ impl Pointer {
 
     // Sets its cells.
     #[tactic(auto, unfolding(crate::specs::Cells::stamped, crate::specs::Cells::mark_cell, crate::specs::Cells::port_cell, crate::specs::Cells::owner_cell, crate::specs::Cells::gone_cell))]
-    fn stamp(self, cells: &mut [bool; CELLS])
-        requires { InCells self }
+    fn stamp(self, cells: &mut [u8])
+        requires { InCells self × (length cells.old ≡ 12 * 1024) }
         ensures { cells.new ≡ stamped cells.old self.kind self.target self.owner self.depth }
     {
         let e = 12 * self.target;
         if recipe::is_port(self.kind) {
-            cells[e + (6 + self.depth)] = true;
+            cells[e + (6 + self.depth)] = 1;
             return;
         }
         if !recipe::is_mark(self.kind) {
             return;
         }
-        cells[e + (5 - self.depth)] = true;
+        cells[e + (5 - self.depth)] = 1;
         if recipe::is_replaced_by(self.kind) {
-            cells[12 * self.owner] = true;
+            cells[12 * self.owner] = 1;
             return;
         }
-        cells[e + 11] = true;
+        cells[e + 11] = 1;
     }
 }
 
 // The record at p, a mark or port, conflicts with an earlier one.
-fn conflicts_at(tree: &Tree, p: usize, cells: &[bool; CELLS]) -> bool
-    requires { In p (places (recipe_of tree.now)) × ((is_pointer (recipe_of tree.now) p ≡ true) × Stamped (recipe_of tree.now) (λ q. q.place < p) cells.now) }
+fn conflicts_at(tree: &Tree, p: usize, cells: &[u8]) -> bool
+    requires { In p (places (recipe_of tree.now)) × ((is_pointer (recipe_of tree.now) p ≡ true) × (Stamped (recipe_of tree.now) (λ q. q.place < p) cells.now × (length cells.now ≡ 12 * 1024))) }
     ensures { result ≡ conflicts_with_earlier (recipe_of tree.now) p }
 {
     let pointer = Pointer::read(tree.source.bytes, tree.shadow, p);
@@ -133,9 +133,9 @@ fn conflicts_at(tree: &Tree, p: usize, cells: &[bool; CELLS]) -> bool
 }
 
 // Sets the cells of the record at p, a mark or port, in each instance of its definition.
-fn enter_at(tree: &Tree, p: usize, cells: &mut [bool; CELLS])
-    requires { In p (places (recipe_of tree.now)) × ((is_pointer (recipe_of tree.now) p ≡ true) × Stamped (recipe_of tree.now) (λ q. q.place < p) cells.old) }
-    ensures { Stamped (recipe_of tree.now) (λ q. q.place < next (recipe_of tree.now) p) cells.new }
+fn enter_at(tree: &Tree, p: usize, cells: &mut [u8])
+    requires { In p (places (recipe_of tree.now)) × ((is_pointer (recipe_of tree.now) p ≡ true) × (Stamped (recipe_of tree.now) (λ q. q.place < p) cells.old × (length cells.old ≡ 12 * 1024))) }
+    ensures { Stamped (recipe_of tree.now) (λ q. q.place < next (recipe_of tree.now) p) cells.new × (length cells.new ≡ 12 * 1024) }
 {
     let pointer = Pointer::read(tree.source.bytes, tree.shadow, p);
     for i in tree.instances_of(p) {
@@ -144,8 +144,8 @@ fn enter_at(tree: &Tree, p: usize, cells: &mut [bool; CELLS])
 }
 
 // Row 9: the first record that conflicts with an earlier one; where there is none, the cells that all records set.
-pub fn first_conflict(tree: &Tree, cells: &mut [bool; CELLS]) -> Option<usize>
-    requires { cells.old ≡ replicate (12 * 1024) false }
+pub fn first_conflict(tree: &Tree, cells: &mut [u8]) -> Option<usize>
+    requires { cells.old ≡ replicate (12 * 1024) 0 }
     ensures { (result ≡ fault₉ (recipe_of tree.now)) × (result ≡ None → AllStamped (recipe_of tree.now) cells.new × (length cells.new ≡ 12 * 1024)) }
 {
     for p in Records::of(tree.source) {

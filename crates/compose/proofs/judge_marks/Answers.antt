@@ -26,7 +26,7 @@ mark_gone-requires c =
     let a = row-passed Conflicting c.first_conflict.ensures.0 c.judge.ensures c.in_ok-judge.was in
     let z = c.first_conflict.ensures.1 (c.first_conflict.ensures.0 ∙ a) in
     rw c.aims.ensures.0
-    (z.0, (rows-listed c.args.tree.now.targeted c.args.el.now _ c.requires.1 c.list_elements.ensures.1 c.list_elements.ensures.0, c.requires.0))
+    (z.0, (z.1, (rows-listed c.args.tree.now.targeted c.args.el.now _ c.requires.1 c.list_elements.ensures.1 c.list_elements.ensures.0, c.requires.0)))
 
 pub first_lost-requires : goal.first_lost-requires
 first_lost-requires c =

@@ -22,13 +22,13 @@ loop-i-init c =
 pub meets_any-requires : goal.meets_any-requires
 meets_any-requires c =
     let h = follows-holds c.args.tree.now.targeted c.args.p c.requires.0 c.loop-i.invariant c.in-Some.ensures.steps in
-    step-fits c.args.tree.now.targeted c.args.p c.requires.0 c.requires.1.0 h c.read-pointer.ensures c.in_instance.ensures
+    (step-fits c.args.tree.now.targeted c.args.p c.requires.0 c.requires.1.0 h c.read-pointer.ensures c.in_instance.ensures, c.requires.1.1.1)
 
 pub returns-then-meets_any : goal.returns-then-meets_any
 returns-then-meets_any c =
     let T = c.args.tree.now.targeted in
     let h = follows-holds T c.args.p c.requires.0 c.loop-i.invariant c.in-Some.ensures.steps in
-    check-hit T c.args.p c.requires.0 c.requires.1.0 h c.read-pointer.ensures c.in_instance.ensures c.requires.1.1 c.meets_any.ensures c.if-meets_any.true
+    check-hit T c.args.p c.requires.0 c.requires.1.0 h c.read-pointer.ensures c.in_instance.ensures c.requires.1.1.0 c.meets_any.ensures c.if-meets_any.true
 
 pub loop-i-preserved : goal.loop-i-preserved
 loop-i-preserved c =
@@ -36,7 +36,7 @@ loop-i-preserved c =
     let s = recipe c.args.tree.now.source.now in
     let h = follows-holds T c.args.p c.requires.0 c.loop-i.invariant c.in-Some.ensures.steps in
     seeks-on T c.args.p c.requires.0 (is_pointer s) (clash s c.args.p) c.in-Some.i c.loop-i.invariant c.in-Some.ensures.steps
-    (step-clash T c.args.p c.requires.0 c.requires.1.0 h c.read-pointer.ensures c.in_instance.ensures c.requires.1.1 c.meets_any.ensures ∙ c.if-meets_any.false)
+    (step-clash T c.args.p c.requires.0 c.requires.1.0 h c.read-pointer.ensures c.in_instance.ensures c.requires.1.1.0 c.meets_any.ensures ∙ c.if-meets_any.false)
 
 pub returns : goal.returns
 unfolding conflicts_with_earlier tree_pointers

@@ -17,14 +17,14 @@ pub loop-i-init : goal.loop-i-init
 loop-i-init c =
     let s = recipe c.args.tree.now.source.now in
     record {
-      long = c.told-cells;
-      along = follow-first c.args.tree.now.targeted c.args.p c.requires.0 (is_pointer s) _ (stamped-same s c.args.cells.now) c.instances_of-i-items.ensures c.into_iter-i-iterator.ensures.into_iter_gives c.requires.1.1;
+      long = c.requires.1.1.1;
+      along = follow-first c.args.tree.now.targeted c.args.p c.requires.0 (is_pointer s) _ (stamped-same s c.args.cells.now) c.instances_of-i-items.ensures c.into_iter-i-iterator.ensures.into_iter_gives c.requires.1.1.0;
     }
 
 pub stamp-requires : goal.stamp-requires
 stamp-requires c =
     let h = follows-holds c.args.tree.now.targeted c.args.p c.requires.0 c.loop-i.invariant.along c.in-Some.ensures.steps in
-    step-fits c.args.tree.now.targeted c.args.p c.requires.0 c.requires.1.0 h c.read-pointer.ensures c.in_instance.ensures
+    (step-fits c.args.tree.now.targeted c.args.p c.requires.0 c.requires.1.0 h c.read-pointer.ensures c.in_instance.ensures, c.loop-i.invariant.long)
 
 pub loop-i-preserved : goal.loop-i-preserved
 loop-i-preserved c =
@@ -38,4 +38,4 @@ loop-i-preserved c =
 pub returns : goal.returns
 returns c =
     let s = recipe c.args.tree.now.source.now in
-    follow-last c.args.tree.now.targeted c.args.p c.requires.0 (is_pointer s) _ (stamped-same s c.loop-i.cells) c.loop-i.invariant.along c.in-None.ensures.steps
+    (follow-last c.args.tree.now.targeted c.args.p c.requires.0 (is_pointer s) _ (stamped-same s c.loop-i.cells) c.loop-i.invariant.along c.in-None.ensures.steps, c.loop-i.invariant.long)

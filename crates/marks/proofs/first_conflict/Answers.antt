@@ -20,7 +20,7 @@ unfolding kind
 conflicts_at-requires c =
     let p = passing-place c.args.tree.now.targeted c.loop-p.invariant.passing c.in-Some.ensures.steps in
     let said = passing-said c.args.tree.now.targeted c.loop-p.invariant.passing c.in-Some.ensures.steps in
-    (p, (pointer-kind (recipe c.args.tree.now.source.now) c.in-Some.p ∙ (sym c.is_pointer.ensures ∙ c.if-is_pointer.true), said))
+    (p, (pointer-kind (recipe c.args.tree.now.source.now) c.in-Some.p ∙ (sym c.is_pointer.ensures ∙ c.if-is_pointer.true), (said, c.loop-p.invariant.long)))
 
 pub returns-then-conflicts_at : goal.returns-then-conflicts_at
 unfolding fault₉
@@ -32,13 +32,13 @@ unfolding kind
 enter_at-requires c =
     let p = passing-place c.args.tree.now.targeted c.loop-p.invariant.passing c.in-Some.ensures.steps in
     let said = passing-said c.args.tree.now.targeted c.loop-p.invariant.passing c.in-Some.ensures.steps in
-    (p, (pointer-kind (recipe c.args.tree.now.source.now) c.in-Some.p ∙ (sym c.is_pointer.ensures ∙ c.if-is_pointer.true), said))
+    (p, (pointer-kind (recipe c.args.tree.now.source.now) c.in-Some.p ∙ (sym c.is_pointer.ensures ∙ c.if-is_pointer.true), (said, c.loop-p.invariant.long)))
 
 pub loop-p-preserved-then-is_pointer : goal.loop-p-preserved-then-is_pointer
 loop-p-preserved-then-is_pointer c =
     record {
-      passing = passing-on c.args.tree.now.targeted c.loop-p.invariant.passing c.in-Some.ensures.steps (sym c.conflicts_at.ensures ∙ c.if-conflicts_at.false) c.enter_at.ensures;
-      long = c.enter_at.array_long;
+      passing = passing-on c.args.tree.now.targeted c.loop-p.invariant.passing c.in-Some.ensures.steps (sym c.conflicts_at.ensures ∙ c.if-conflicts_at.false) c.enter_at.ensures.0;
+      long = c.enter_at.ensures.1;
     }
 
 pub loop-p-preserved : goal.loop-p-preserved

@@ -10,5 +10,5 @@ returns-then-is_replaced_by c =
     c.any_set-then-is_replaced_by.ensures
     ∙ meets-owner c.args.cells.now c.args.self.kind c.args.self.target c.args.self.owner c.args.self.depth
     (sym c.is_port.ensures ∙ c.if-is_port.false) (sym c.is_replaced_by.ensures ∙ c.if-is_replaced_by.true)
-    (omega (arith, c.told-cells, c.requires.target, c.requires.depth)) (omega (arith, c.told-cells, c.requires.owner (sym c.is_replaced_by.ensures ∙ c.if-is_replaced_by.true)))
+    (omega (arith, c.requires.1, c.requires.0.target, c.requires.0.depth)) (omega (arith, c.requires.1, c.requires.0.owner (sym c.is_replaced_by.ensures ∙ c.if-is_replaced_by.true)))
     (sym c.any_set-2.ensures ∙ c.if-any_set-2.false)
