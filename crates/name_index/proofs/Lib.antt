@@ -4,3 +4,4 @@ pub mod Runs
 pub mod Positions
 pub mod Finds
 pub mod Hashing
+pub mod Merging

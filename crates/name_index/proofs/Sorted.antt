@@ -29,7 +29,7 @@ abbrev pub All : (ℕ → Type 0) → List ℕ → Type 0
 All P [] = Unit
 All P (x ∷ xs) = P x × All P xs
 
-all_map : {P Q : ℕ → Type 0} (xs : List ℕ) → ((x : ℕ) → P x → Q x) → All P xs → All Q xs
+pub all_map : {P Q : ℕ → Type 0} (xs : List ℕ) → ((x : ℕ) → P x → Q x) → All P xs → All Q xs
 all_map [] f h = tt
 all_map (x ∷ xs) f h = (f x h.0, all_map xs f h.1)
 
@@ -196,7 +196,7 @@ module _ (name : ℕ → List ℕ) where
       table-snoc g from n ∙ (ap (λ (k : ℕ). k + g (from + n)) (ordered-counts g from n) ∙ sym (insert-counts g (from + n) (ordered name from n)))
 
   -- ---- the list of a sort: no element stands before an earlier one
-  abbrev Sorted : List ℕ → Type 0
+  abbrev pub Sorted : List ℕ → Type 0
   Sorted [] = Unit
   Sorted (x ∷ xs) = All (λ y. stands name y x ≡ false) xs × Sorted xs
 
@@ -244,11 +244,17 @@ module _ (name : ℕ → List ℕ) where
       stands-antisym x y (all-counted (λ z. stands name z y ≡ false) ys x s.0 (omega arith)) (all-counted (λ z. stands name z x ≡ false) xs y r.0 (omega arith))) in
       cons-eq e (unique xs ys r.1 s.1 (λ q. let hq = h q in let f : one q x ≡ one q y = ap (one q) e in omega arith))
 
-  far-sorted : (xs : List ℕ) → ((i j : ℕ) → i ≤ j → j < length xs → stands name (get_or xs j 0) (get_or xs i 0) ≡ false) → Sorted xs
+  pub far-sorted : (xs : List ℕ) → ((i j : ℕ) → i ≤ j → j < length xs → stands name (get_or xs j 0) (get_or xs i 0) ≡ false) → Sorted xs
   far-sorted [] h = tt
   far-sorted (x ∷ xs) h = (at-all (λ y. stands name y x ≡ false) xs (λ k l. h 0 (suc k) (omega arith) (omega arith)), far-sorted xs (λ i j u v. h (suc i) (suc j) (omega arith) (omega arith)))
 
-  one-way : (x y : ℕ) → stands name x y ≡ true → stands name y x ≡ false
+  pub sorted-near : (xs : List ℕ) → Sorted xs → (k d : ℕ) → k + 1 < length xs → stands name (get_or xs (suc k) d) (get_or xs k d) ≡ false
+  sorted-near [] r k d l = absurd (omega arith)
+  sorted-near (x ∷ []) r k d l = absurd (omega arith)
+  sorted-near (x ∷ y ∷ xs) r zero d l = r.0.0
+  sorted-near (x ∷ y ∷ xs) r (suc k) d l = sorted-near (y ∷ xs) r.1 k d (omega arith)
+
+  pub one-way : (x y : ℕ) → stands name x y ≡ true → stands name y x ≡ false
   unfolding stands
   one-way x y e =
       by_cases (before (name x) (name y))
@@ -257,7 +263,7 @@ module _ (name : ℕ → List ℕ) where
       let t : not (before (name y) (name x)) && ltb x y ≡ true = rw b at e in
       rw (not-not (before (name y) (name x)) (and_left (not (before (name y) (name x))) (ltb x y) t), b, le-ltb y x (let l = ltb-true x y (and_right (not (before (name y) (name x))) (ltb x y) t) in omega arith)))
 
-  chained : (x y z : ℕ) → stands name x y ≡ false → stands name y z ≡ false → stands name x z ≡ false
+  pub chained : (x y z : ℕ) → stands name x y ≡ false → stands name y z ≡ false → stands name x z ≡ false
   unfolding stands
   chained x y z e f =
       let a = le_trans (name z) (name y) (name x) (none-before y z f) (none-before x y e) in

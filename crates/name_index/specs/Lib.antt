@@ -3,3 +3,4 @@ pub mod Hash
 pub mod Index
 pub mod Positions
 pub mod Runs
+pub mod Merging

@@ -1,8 +1,9 @@
-// An index of names: the positions of equally long records in order of their keys, then of their names, then of the positions.
-// For the floors above: hash and hash_names; Records, the records with their keys; NameIndex, which build makes of them, and which answers find and first_repeat.
+// An index of names: the positions of equally long records in order of their keys, then of their names, then of the positions. Names of one key are sorted by merging, so that
+// it takes n log n comparisons of names on all input, and no merge where they are in order.
+// For the floors above: hash and hash_names; Records, the records with their keys, whose positions write_order writes in order; NameIndex, which build makes of them, and which answers find and first_repeat.
 #![tactic(auto)]
 
-ghost use Rattle.std.specs.Prelude.{◌≡◌, ◌≤◌, ◌∷◌, ◌+◌, ◌*◌, ◌/◌, ◌<◌, length, get_or};
+ghost use Rattle.std.specs.Prelude.{◌≡◌, ◌≤◌, ◌∷◌, ◌+◌, ◌*◌, ◌/◌, ◌<◌, ◌++◌, length, get_or, take, drop};
 ghost use Rattle.std.specs.Ordering.{is_lt, nat_cmp};
 ghost use Rattle.std.specs.Cmp.Lexicographic.{slice_cmp};
 ghost use Rattle.names.specs.Lists.{same};
@@ -47,6 +48,12 @@ const HIGH_FACTOR: u64 = 374761393;
 
 // What a position stays below.
 const POSITIONS: u64 = 65536;
+
+// The most positions of one key that are sorted by merging.
+const MOST_MERGED: usize = 1536;
+
+// The most that the library sorts by insertion.
+const MOST_INSERTED: usize = 16;
 
 // The state after eight bytes more.
 fn mix(h: u64, eight: &[u8; 8]) -> u64
@@ -94,6 +101,7 @@ impl<'a> Records<'a> {
     ghost use Rattle.std.specs.List.Sorted.{IsPermutation, IsSortedBy};
     ghost use Rattle.name_index.specs.Positions.{count, entry, total_entry, stands};
     ghost use Rattle.name_index.specs.Runs.{key_at, Rises, Run};
+    ghost use Rattle.name_index.specs.Merging.{merged, next_right};
 
     // The key of the record at position p, 0 behind the last.
     fn key(&self, p: usize) -> u32
@@ -181,17 +189,77 @@ impl<'a> Records<'a> {
         i + 1 + more
     }
 
+    // Whether the next of two runs, from place i of a and from place j of b, is b's.
+    fn next_is_right(&self, a: &[u16], i: usize, b: &[u16], j: usize) -> bool
+        ensures { result ≡ next_right (stands (total_entry self.now)) (drop i a.now) (drop j b.now) }
+    {
+        if a.len() <= i {
+            return true;
+        }
+        if b.len() <= j {
+            return false;
+        }
+        self.compare(b[j] as usize, a[i] as usize).is_lt()
+    }
+
+    // Writes two runs as one.
+    fn merge(&self, a: &[u16], b: &[u16], out: &mut [u16])
+        requires { length out.old ≡ length a.now + length b.now }
+        ensures { out.new ≡ merged (stands (total_entry self.now)) a.now b.now }
+    {
+        let mut i = 0;
+        for k in 0..out.len() {
+            let j = k - i;
+            if self.next_is_right(a, i, b, j) {
+                out[k] = b[j];
+                continue;
+            }
+            out[k] = a[i];
+            i += 1;
+        }
+    }
+
+    // The two runs that a list is, up to place h and from there on, as one in their place; the spare places are for the work.
+    fn merge_halves(&self, run: &mut [u16], h: usize, spare: &mut [u16])
+        requires { (h ≤ length run.old) × (length run.old ≤ length spare.old) }
+        ensures { run.new ≡ merged (stands (total_entry self.now)) (take h run.old) (drop h run.old) }
+    {
+        let n = run.len();
+        let halves = &run[..];
+        self.merge(&halves[..h], &halves[h..], &mut spare[..n]);
+        run.copy_from_slice(&spare[..n]);
+    }
+
+    // Puts positions in order, half by half, and merges the halves if they are not in order as they stand.
+    fn sort_run(&self, run: &mut [u16], spare: &mut [u16])
+        ensures moved { IsPermutation run.old run.new }
+        ensures sorted { IsSortedBy (stands (total_entry self.now)) run.new }
+    {
+        let n = run.len();
+        if (n <= MOST_INSERTED) | (spare.len() < n) {
+            run.sort_unstable_by(|p, q| self.compare(*p as usize, *q as usize));
+            return;
+        }
+        let h = n / 2;
+        self.sort_run(&mut run[..h], spare);
+        self.sort_run(&mut run[h..], spare);
+        if self.compare(run[h] as usize, run[h - 1] as usize).is_lt() {
+            self.merge_halves(run, h, spare);
+        }
+    }
+
     // Puts positions whose keys are in order in order, by sorting those of each key.
     fn sort_runs(&self, order: &mut [u16])
         requires { Rises (key_at self.now) order.old }
         ensures moved { IsPermutation order.old order.new }
         ensures sorted { IsSortedBy (stands (total_entry self.now)) order.new }
     {
+        let mut spare = [0u16; MOST_MERGED];
         let mut i = 0;
         while i < order.len() {
             let j = self.run_end(order, i);
             if i + 1 < j {
-                order[i..j].sort_unstable_by(|p, q| self.compare(*p as usize, *q as usize));
+                self.sort_run(&mut order[i..j], &mut spare);
             }
             i = j;
         }
@@ -208,6 +276,14 @@ impl<'a> Records<'a> {
         order.sort_unstable_by_key(|p| self.number(*p));
         self.sort_runs(order);
     }
+
+    // The same into the first of the places lent; those behind them stay.
+    pub fn write_order(&self, order: &mut [u16])
+        requires { (count self.now ≤ length order.old) × (count self.now < 65536) }
+        ensures { order.new ≡ ordered (entry self.now) 0 (count self.now) ++ drop (count self.now) order.old }
+    {
+        self.sort(&mut order[..self.keys.len()]);
+    }
 }
 
 impl<'a> NameIndex<'a> {
@@ -218,9 +294,11 @@ impl<'a> NameIndex<'a> {
         requires { (count records ≤ length order.old) × (count records < 65536) }
         ensures { result.records ≡ records.entry }
     {
-        let order = &mut order[..records.keys.len()];
-        records.sort(order);
-        NameIndex { records, order }
+        records.write_order(order);
+        NameIndex {
+            records,
+            order: &order[..records.keys.len()],
+        }
     }
 
     // The position that a scan of the records gives for a key and a name.

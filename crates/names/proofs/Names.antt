@@ -12,36 +12,13 @@ use lib.Dec.{eqb}
 use borrow.Author.Tests.{eq-eqb, ne_eqb, eqb-true, eqb-false}
 use Rattle.std.specs.List.{prefix_len}
 use Rattle.std.proofs.lemmas.List.Folds.{length-prefix_len}
-use Rattle.names.specs.Lists.{every, keep_while, same, padded}
+use Rattle.names.specs.Lists.{every, keep_while, padded}
 use Rattle.names.specs.Names.{is_letter, is_digit, underscore, is_first, is_other, non_zero, are_name_characters, text, is_blank, is_name, is_name_or_blank, field_of, field_at}
 use Rattle.names.specs.declared.Field.{Field}
 use Rattle.names.specs.declared.Field.TheVariants.{Name, Blank, Neither}
 use Rattle.names.proofs.Runs.{kept-prefix}
 use Rattle.names.proofs.Tests.{by_cases, not-both, and_left, and_right, both}
 use Rattle.names.proofs.Lists.{every-on, every-off, while-on, while-off, take_while, every_append, every-replicate}
-
--- ---- zeros
--- each byte is x where each is the same as the one before it
-same-shifted : (x : ℕ) (xs : List ℕ) → same (take (length xs) (x ∷ xs)) xs ≡ every (eqb x) xs
-same-shifted x [] = refl
-same-shifted x (y ∷ ys) =
-    by_cases (eqb x y)
-    (λ e. rw (e, every) (same-shifted y ys ∙ ap (λ (z : ℕ). every (eqb z) ys) (sym (eqb-true x y e))))
-    (λ e. rw (e, every))
-
-pub blank-empty : (f : List ℕ) → length f ≡ 0 → true ≡ is_blank f
-unfolding is_blank
-blank-empty [] e = refl
-blank-empty (x ∷ f) e = absurd (omega arith)
-
-module _ {f : List ℕ} {x : ℕ} {xs : List ℕ} (e : f ≡ x ∷ xs) where
-  pub blank-shifted : x ≡ 0 → same (take (length xs) f) xs ≡ is_blank f
-  unfolding is_blank
-  blank-shifted z = rw (e, z) (same-shifted 0 xs)
-
-  pub blank-stop : (x ≡ 0 → ⊥) → eqb x 0 ≡ is_blank f
-  unfolding is_blank
-  blank-stop n = rw (e, ne_eqb x 0 n) (sym (every-off (eqb 0) x xs (ne_eqb 0 x (λ q. n (sym q)))))
 
 -- ---- the part before the padding
 text-zero : (x : ℕ) (xs : List ℕ) → x ≡ 0 → text (x ∷ xs) ≡ []
@@ -148,7 +125,20 @@ no_name f e = name-run f ∙ rw e
 no-padding : (f : List ℕ) → is_blank (drop (run f) f) ≡ false → is_name f ≡ false
 no-padding f e = name-run f ∙ by_cases (is_first (get_or f 0 0)) (λ h. rw (h, e)) (λ h. rw h)
 
--- ---- what a field reads as, n being the length of that run
+-- ---- what a field reads as: a blank,
+pub field-blank : (f : List ℕ) {z : Bool} → z ≡ is_blank f → z ≡ true → Blank ≡ field_of f
+unfolding field_of
+field-blank f k h =
+    let e = sym k ∙ h in
+    by_cases (eqb (run f) 0)
+    (λ q. rw (no_name f (no-first f (eqb-true (run f) 0 q)), e))
+    (λ q. not-both e (blank-run f (eqb-false (run f) 0 q)))
+
+-- ---- or else by the length n of that run
+pub field-none : (f : List ℕ) {z : Bool} {n : ℕ} → z ≡ is_blank f → z ≡ false → n ≡ length (keep_while is_other f) → n ≡ 0 → Neither ≡ field_of f
+unfolding field_of run
+field-none f k h e q = rw (no_name f (no-first f (sym e ∙ q)), sym k ∙ h)
+
 module _ (f : List ℕ) {n : ℕ} (e : n ≡ length (keep_while is_other f)) {z : Bool} (k : z ≡ is_blank (take (length f - n) (drop n f))) where
   long : n ≡ run f
   unfolding run
@@ -168,10 +158,6 @@ module _ (f : List ℕ) {n : ℕ} (e : n ≡ length (keep_while is_other f)) {z 
       no-blank = by_cases (eqb (run f) 0)
           (λ q. ap (λ (m : ℕ). is_blank (drop m f)) (sym (eqb-true (run f) 0 q)) ∙ (behind ∙ h))
           (λ q. blank-run f (eqb-false (run f) 0 q))
-
-  pub field-blank : z ≡ true → n ≡ 0 → Blank ≡ field_of f
-  unfolding field_of
-  field-blank h q = rw (no_name f (no-first f (sym long ∙ q)), sym (ap (λ (m : ℕ). is_blank (drop m f)) q) ∙ (sym here ∙ h))
 
   pub field-named : {b : Bool} → z ≡ true → b ≡ is_first (get_or f 0 0) → b ≡ true → Name n ≡ field_of f
   unfolding field_of

@@ -9,7 +9,7 @@ use lib.ListN.{length, get_or, take, drop, length-drop}
 use lib.Seq.{drop-drop, take_all, ext_get_or}
 use lib.Dec.{eqb, ltb, leb}
 use borrow.Author.Tests.{eq-eqb, ne_eqb, eqb-true, eqb-false, leb-true, leb-false}
-use Rattle.std.specs.List.{fold, prefix_len}
+use Rattle.std.specs.List.{fold, list_all, prefix_len}
 use Rattle.std.specs.Simd.{first_chunks}
 use Rattle.std.proofs.lemmas.List.Folds.{length-prefix_len}
 use Rattle.std.proofs.lemmas.List.Sums.{prefix_len_is}
@@ -69,6 +69,30 @@ module _ {A : Type 0} (t : A → Bool) where
       let rest : k ≡ length (keep_while t ys) = q ∙ (length-prefix_len t (take (length xs - 8 * n) ys) ∙ (ap (prefix_len t) all ∙ sym (kept-prefix ys))) in
       let over : n ≡ prefix_len (every t) (first_chunks 8 (length xs / 8) xs) = p ∙ (length-prefix_len (every t) zs ∙ ap (prefix_len (every t)) e) in
       ap (λ (j : ℕ). 8 * n + j) rest ∙ rw over (eights-over (length xs / 8) xs (omega arith))
+
+-- ---- a test of all, in steps of eight and of the rest
+module _ {A : Type 0} (t : A → Bool) where
+  every-parts : (n : ℕ) (xs : List A) → every t xs ≡ every t (take n xs) && every t (drop n xs)
+  every-parts zero xs = refl
+  every-parts (suc n) [] = refl
+  every-parts (suc n) (x ∷ xs) = by_cases (t x) (λ e. rw (e, every) (every-parts n xs)) (λ e. rw (e, every))
+
+  eights-every : (m : ℕ) (xs : List A) → list_all (every t) (first_chunks 8 m xs) && every t (drop (m * 8) xs) ≡ every t xs
+  eights-every zero xs = refl
+  eights-every (suc m) xs =
+      let z : (suc m) * 8 ≡ 8 + m * 8 = omega arith in
+      let rest = eights-every m (drop 8 xs) in
+      rw (every-parts 8 xs, z, ← drop-drop (m * 8) 8 xs)
+      (by_cases (every t (take 8 xs)) (λ e. rw (e, list_all) rest) (λ e. rw (e, list_all)))
+
+  listed-every : (xs : List A) → list_all t xs ≡ every t xs
+  listed-every [] = refl
+  listed-every (x ∷ xs) = by_cases (t x) (λ e. rw (e, list_all, every) (listed-every xs)) (λ e. rw (e, list_all, every))
+
+  -- as `all` gives them, over the chunks of a slice and over what is behind
+  pub every-eights : (xs : List A) {zs : List (List A)} {ys : List A} → zs ≡ first_chunks 8 (length xs / 8) xs → ys ≡ drop (length xs / 8 * 8) xs
+      → list_all (every t) zs && list_all t ys ≡ every t xs
+  every-eights xs {ys = ys} e f = rw (listed-every ys, e, f) (eights-every (length xs / 8) xs)
 
 -- by index: all before n pass, and n does not
 pub run_length : (t : ℕ → Bool) (f : List ℕ) (n : ℕ) → n ≤ length f → ((k : ℕ) → k < n → t (get_or f k 0) ≡ true) → (n < length f → t (get_or f n 0) ≡ false)

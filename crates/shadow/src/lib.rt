@@ -131,7 +131,7 @@ fn submodel_behind(s: &Source, p: usize) -> Option<usize>
 {
     let behind = Records {
         source: s,
-        at: p + recipe::record_length(s.bytes[p], s.width),
+        at: p + recipe::length_by_kind(s.bytes[p], s.width),
     };
     for q in behind {
         let k = s.bytes[q];

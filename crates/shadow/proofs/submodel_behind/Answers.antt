@@ -12,12 +12,12 @@ pub bounds-s-p : goal.bounds-s-p
 bounds-s-p c = place-low (recipe c.args.s.now) c.args.p c.requires.1
 
 pub overflow_add-behind : goal.overflow_add-behind
-overflow_add-behind c = omega (arith, own-fits (recipe c.args.s.now) c.requires.0 c.args.p c.requires.1, c.record_length.ensures)
+overflow_add-behind c = omega (arith, own-fits (recipe c.args.s.now) c.requires.0 c.args.p c.requires.1, c.length_by_kind.ensures)
 
 pub loop-q-init : goal.loop-q-init
 loop-q-init c =
     let o = over-from (recipe c.args.s.now) refl c.into_iter-q-iterator.ensures.into_iter_gives in
-    (o.0, rw (o.1, c.record_length.ensures) (search-start (recipe c.args.s.now) c.requires.0 c.args.p c.requires.1))
+    (o.0, rw (o.1, c.length_by_kind.ensures) (search-start (recipe c.args.s.now) c.requires.0 c.args.p c.requires.1))
 
 pub returns-then-k : goal.returns-then-k
 returns-then-k c =

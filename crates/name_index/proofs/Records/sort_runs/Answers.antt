@@ -1,10 +1,6 @@
 -- `Records::sort_runs` meets its contract: each turn puts one run in order.
 -- Assumes nothing.
-use borrow.Author.Rules.{rules}
-use Rattle.std.proofs.lemmas.Fn.{always_returns_same}
-use Rattle.name_index.specs.Positions.{total_entry, stands}
 use Rattle.name_index.proofs.Positions.{lower-key}
-use Rattle.name_index.proofs.Sorted.{stands-order}
 use Rattle.name_index.proofs.Runs.{running-start, running-step, running-one, running-end}
 use Rattle.name_index.proofs.Records.sort_runs.Goals as goal
 
@@ -13,9 +9,7 @@ loop-i-init c = running-start _ _ c.requires
 
 pub loop-i-preserved-then-i-j : goal.loop-i-preserved-then-i-j
 loop-i-preserved-then-i-j c =
-    let r = c.args.self.now in
-    let lt = c.sort_unstable_by.ensures.sorted (stands (total_entry r)) (stands-order (total_entry r)) (always_returns_same _ _ _ (λ a x f k. search rules)) in
-    running-step _ _ c.run_end-j.ensures c.sort_unstable_by.ensures.permutation (lower-key r) c.loop-i.invariant lt
+    running-step _ _ c.run_end-j.ensures c.sort_run.ensures.moved (lower-key c.args.self.now) c.loop-i.invariant c.sort_run.ensures.sorted
 
 pub loop-i-preserved : goal.loop-i-preserved
 loop-i-preserved c = running-one _ _ (lower-key c.args.self.now) c.run_end-j.ensures c.if-i-j.false c.loop-i.invariant
