@@ -1,15 +1,18 @@
 -- What flattening with factors is: of every recipe, both outputs, and answers that the promises of `bandrolt_flatten_with_factors` and `bandrolt_flatten` allow.
 -- Statements alone, each with the law that shows it. Assumes nothing.
+use Rattle.std.specs.Prelude.{None}
 use mathlib.Core.Path.{◌≡◌, refl, sym, ◌∙◌}
 use Prim.Native.Nat.{ℕ, suc, ◌+◌, ◌*◌, ◌<◌}
 use mathlib.Core.Bool.{false}
 use mathlib.Core.List.{List}
 use lib.ListN.{length, take, drop}
+use Rattle.names.specs.Judging.{fault_of}
 use Rattle.names.specs.Names.{is_blank}
+use Rattle.names.proofs.Judging.{row-none}
 use Rattle.flat_table.specs.Table.{flat_width}
 use Rattle.recipe.specs.Records.{extent_field, time_field}
 use Rattle.tree.specs.Tree.{most_depth}
-use Rattle.compose.specs.Rows.{Unrefused}
+use Rattle.compose.specs.Rows.{Unrefused, refusal_rows}
 use Rattle.composer.specs.declared.Answer.{Answer}
 use Rattle.composer.specs.Verdicts.{name_width, recipe_of, verdict, written}
 use Rattle.composer.proofs.Demand.{twelve}
@@ -64,6 +67,9 @@ module _ (recipe before entries after entries' : List ℕ) (a : FactorsAnswer) (
     sound : Unrefused (recipe_of recipe)
     sound = clear (recipe_of recipe) before entries a answers accepts
 
+    none : (n : ℕ) → fault_of n (refusal_rows (recipe_of recipe)) ≡ None
+    none n = row-none n (refusal_rows (recipe_of recipe)) sound
+
     low : {i : ℕ} → i < a.entries → i < length (rated (recipe_of recipe))
     low l = rw counted at l
 
@@ -71,13 +77,13 @@ module _ (recipe before entries after entries' : List ℕ) (a : FactorsAnswer) (
     pub entry-is : (i : ℕ) → i < a.entries → entry_of name_width table i ≡ companion_record (recipe_of recipe) (rated_at (recipe_of recipe) i)
     unfolding recipe_of name_width
     entry-is i l =
-        rw table_is (entry_at (recipe_of recipe) twelve sound i (low l))
+        rw table_is (entry_at (recipe_of recipe) twelve (none 3) (none 5) (none 7) i (low l))
 
     -- no two have one name,
     pub one_name : (i j : ℕ) → i < a.entries → j < a.entries → entry_field name_width table i 0 ≡ entry_field name_width table j 0 → i ≡ j
     unfolding recipe_of name_width
     one_name i j l m e =
-        one_entry (recipe_of recipe) twelve sound i j (low l) (low m) (rw table_is at e)
+        one_entry (recipe_of recipe) twelve (none 3) (none 5) (none 7) (none 4) i j (low l) (low m) (rw table_is at e)
 
     -- and "bytes past the entries are unchanged"
     pub unchanged : drop (entry_length name_width * a.entries) entries' ≡ drop (entry_length name_width * a.entries) entries
@@ -92,7 +98,7 @@ module _ (recipe before entries after entries' : List ℕ) (a : FactorsAnswer) (
       unfolding recipe_of name_width
       time-factor b =
           rw table_is
-          (time-named (recipe_of recipe) twelve sound i (low l) k m (rw table_is at b))
+          (time-named (recipe_of recipe) twelve (none 3) (none 5) (none 7) (none 4) (none 20) i (low l) k m (rw table_is at b))
 
       -- and the extent factor
       pub extent-factor : is_blank (entry_field name_width table i (4 + suc k)) ≡ false
@@ -100,4 +106,4 @@ module _ (recipe before entries after entries' : List ℕ) (a : FactorsAnswer) (
       unfolding recipe_of name_width
       extent-factor b =
           rw table_is
-          (extent-named (recipe_of recipe) twelve sound i (low l) k m (rw table_is at b))
+          (extent-named (recipe_of recipe) twelve (none 3) (none 5) (none 7) (none 4) (none 20) i (low l) k m (rw table_is at b))

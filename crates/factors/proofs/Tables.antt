@@ -13,7 +13,6 @@ use borrow.Author.Tests.{eq-eqb, eqb-true, ltb-true, not-false, not-true}
 use Rattle.names.specs.Lists.{In, any, holds, joined}
 use Rattle.names.specs.Names.{is_blank}
 use Rattle.names.proofs.Lists.{get_or-in, in-append, in_map, none_first, not-any, piece}
-use Rattle.names.proofs.Judging.{row-none}
 use Rattle.names.proofs.ListOrder.{at-earlier, keep-earlier}
 use Rattle.names.proofs.Tests.{and_left, and_none, and_right, by_cases, by-option, not-both, or-none-left, or-none-right, some-map, three}
 use Rattle.flat_table.specs.Table.{flat_width}
@@ -31,7 +30,6 @@ use Rattle.marks.specs.Faults.{factor_named, fault₂₀, has_factor_fault, is_f
 use Rattle.marks.specs.Marks.{chain_end, is_gone, survivors}
 use Rattle.marks.proofs.Chain.{chain-in}
 use Rattle.marks.proofs.Survivors.{survives, survivor}
-use Rattle.compose.specs.Rows.{Unrefused, refusal_rows}
 use Rattle.composer.specs.Flat.{flat_field}
 use Rattle.composer.specs.FlatRecords.{NamesOne}
 use Rattle.composer.proofs.Characters.{field-blank}
@@ -50,22 +48,7 @@ by-four P a b c d (suc (suc zero)) m = c
 by-four P a b c d (suc (suc (suc zero))) m = d
 by-four P a b c d (suc (suc (suc (suc k)))) m = absurd (omega arith)
 
-module _ (s : Recipe) (two : 2 ≤ s.width) (h : Unrefused s) where
-  h₃ : fault₃ s ≡ None
-  h₃ = row-none 3 (refusal_rows s) h
-
-  h₄ : fault₄ s ≡ None
-  h₄ = row-none 4 (refusal_rows s) h
-
-  h₅ : fault₅ s ≡ None
-  h₅ = row-none 5 (refusal_rows s) h
-
-  h₇ : fault₇ s ≡ None
-  h₇ = row-none 7 (refusal_rows s) h
-
-  h₂₀ : fault₂₀ s ≡ None
-  h₂₀ = row-none 20 (refusal_rows s) h
-
+module _ (s : Recipe) (two : 2 ≤ s.width) (h₃ : fault₃ s ≡ None) (h₅ : fault₅ s ≡ None) (h₇ : fault₇ s ≡ None) where
   module _ (i : ℕ) (l : i < length (rated s)) where
     x : Node
     x = rated_at s i
@@ -125,113 +108,115 @@ module _ (s : Recipe) (two : 2 ≤ s.width) (h : Unrefused s) where
     extent-at = by-four _ (field-at 5 (omega arith)) (field-at 6 (omega arith)) (field-at 7 (omega arith)) (field-at 8 (omega arith))
 
   -- no two entries have one name
-  not-before : (i j : ℕ) → i < j → j < length (rated s) → entry_field s.width (companion s) i 0 ≡ entry_field s.width (companion s) j 0 → ⊥
-  unfolding rated survivors
-  not-before i j h l e =
-      let a = rated_at s i in
-      let b = rated_at s j in
-      let m : i < length (rated s) = omega arith in
-      let o = at-earlier (rated s) i j (node [] 0) h l in
-      let same : b ≡ a =
-      same-survivor s two h₃ h₅ h₇ h₄ b a (rated-tree s b (get_or-in (rated s) j (node [] 0) l)) (rated-tree s a (get_or-in (rated s) i (node [] 0) m)) (sym (name-at j l) ∙ sym e ∙ name-at i m) in
-      elements-distinct s a (keep-earlier (λ z. not (is_gone s z)) (tree_elements s) a a (keep-earlier (is_rated s) (survivors s) a a (rw same at o)))
+  module _ (h₄ : fault₄ s ≡ None) where
+    not-before : (i j : ℕ) → i < j → j < length (rated s) → entry_field s.width (companion s) i 0 ≡ entry_field s.width (companion s) j 0 → ⊥
+    unfolding rated survivors
+    not-before i j h l e =
+        let a = rated_at s i in
+        let b = rated_at s j in
+        let m : i < length (rated s) = omega arith in
+        let o = at-earlier (rated s) i j (node [] 0) h l in
+        let same : b ≡ a =
+        same-survivor s two h₃ h₅ h₇ h₄ b a (rated-tree s b (get_or-in (rated s) j (node [] 0) l)) (rated-tree s a (get_or-in (rated s) i (node [] 0) m)) (sym (name-at j l) ∙ sym e ∙ name-at i m) in
+        elements-distinct s a (keep-earlier (λ z. not (is_gone s z)) (tree_elements s) a a (keep-earlier (is_rated s) (survivors s) a a (rw same at o)))
 
-  pub one_entry : (i j : ℕ) → i < length (rated s) → j < length (rated s) → entry_field s.width (companion s) i 0 ≡ entry_field s.width (companion s) j 0 → i ≡ j
-  one_entry i j a b e =
-      three i j
-      (λ l. absurd (not-before i j l b e))
-      (λ l. l)
-      (λ l. absurd (not-before j i l a (sym e)))
+    pub one_entry : (i j : ℕ) → i < length (rated s) → j < length (rated s) → entry_field s.width (companion s) i 0 ≡ entry_field s.width (companion s) j 0 → i ≡ j
+    one_entry i j a b e =
+        three i j
+        (λ l. absurd (not-before i j l b e))
+        (λ l. l)
+        (λ l. absurd (not-before j i l a (sym e)))
 
-  -- ---- what a filled factor field names
-  no-fault : (y : Node) → In y (nodes s (is_factors s)) → has_factor_fault s y ≡ false
-  unfolding fault₂₀ is_unfactored
-  no-fault y i =
-      let t : ℕ → Node → Bool = λ p z. eqb z.place p && has_factor_fault s z in
-      let placed = node-place s (in-nodes s (is_factors s) y i) in
-      and_none (eqb y.place y.place) (has_factor_fault s y) (eq-eqb y.place y.place refl)
-      (not-any (t y.place) (nodes s (is_factors s)) y (none_first (λ p. any (t p) (nodes s (is_factors s))) (places s) y.place h₂₀ placed) i)
+    -- ---- what a filled factor field names
+    module _ (h₂₀ : fault₂₀ s ≡ None) where
+      no-fault : (y : Node) → In y (nodes s (is_factors s)) → has_factor_fault s y ≡ false
+      unfolding fault₂₀ is_unfactored
+      no-fault y i =
+          let t : ℕ → Node → Bool = λ p z. eqb z.place p && has_factor_fault s z in
+          let placed = node-place s (in-nodes s (is_factors s) y i) in
+          and_none (eqb y.place y.place) (has_factor_fault s y) (eq-eqb y.place y.place refl)
+          (not-any (t y.place) (nodes s (is_factors s)) y (none_first (λ p. any (t p) (nodes s (is_factors s))) (places s) y.place h₂₀ placed) i)
 
-  module _ (field : Recipe → ℕ → List ℕ) (half : (y : Node) → has_factor_fault s y ≡ false → is_factor_fault s y (field s y.place) ≡ false) where
-    -- the end of the chain from what a kind 8 names does
-    end-does : (path : List ℕ) (f : ℕ) (z : Node) → In (node path f) (nodes s (is_factors s)) → factor_named s (node path f) (field s f) ≡ Some z → is_factor s (chain_end s z) ≡ true
-    unfolding is_factor_fault factor_named node
-    end-does path f z i e =
-        let r = some-map (node path) (element_in s f (field s f)) z e in
-        let filled = (element-in s f (field s f) r.0 r.1).0 in
-        let g = half (node path f) (no-fault (node path f) i) in
-        let n = and_none (not (is_blank (field s f))) (not (holds (λ y. is_factor s (chain_end s y)) (factor_named s (node path f) (field s f)))) (ap not filled) g in
-        not-false (is_factor s (chain_end s z)) (rw e at n)
+      module _ (field : Recipe → ℕ → List ℕ) (half : (y : Node) → has_factor_fault s y ≡ false → is_factor_fault s y (field s y.place) ≡ false) where
+        -- the end of the chain from what a kind 8 names does
+        end-does : (path : List ℕ) (f : ℕ) (z : Node) → In (node path f) (nodes s (is_factors s)) → factor_named s (node path f) (field s f) ≡ Some z → is_factor s (chain_end s z) ≡ true
+        unfolding is_factor_fault factor_named node
+        end-does path f z i e =
+            let r = some-map (node path) (element_in s f (field s f)) z e in
+            let filled = (element-in s f (field s f) r.0 r.1).0 in
+            let g = half (node path f) (no-fault (node path f) i) in
+            let n = and_none (not (is_blank (field s f))) (not (holds (λ y. is_factor s (chain_end s y)) (factor_named s (node path f) (field s f)))) (ap not filled) g in
+            not-false (is_factor s (chain_end s z)) (rw e at n)
 
-    module _ (path : List ℕ) (k : ℕ) (f : List ℕ) (i : In path (instances s)) (e : f ≡ flat_field s (factor_at s field path (suc k))) (b : is_blank f ≡ false) where
-      blank : factor_at s field path (suc k) ≡ None → FactorNamed s field path k f
-      blank n = not-both (ap is_blank (e ∙ ap (flat_field s) n) ∙ field-blank s h₃) b
+        module _ (path : List ℕ) (k : ℕ) (f : List ℕ) (i : In path (instances s)) (e : f ≡ flat_field s (factor_at s field path (suc k))) (b : is_blank f ≡ false) where
+          blank : factor_at s field path (suc k) ≡ None → FactorNamed s field path k f
+          blank n = not-both (ap is_blank (e ∙ ap (flat_field s) n) ∙ field-blank s h₃) b
 
-      too-deep : ltb k (length path) ≡ false → factor_at s field path (suc k) ≡ None
-      unfolding factor_at
-      too-deep t = rw t
+          too-deep : ltb k (length path) ≡ false → factor_at s field path (suc k) ≡ None
+          unfolding factor_at
+          too-deep t = rw t
 
-      at-depth : ltb k (length path) ≡ true → factor_at s field path (suc k) ≡ factor_for s field (take k path) (get_or path k 0)
-      unfolding factor_at
-      at-depth t = rw t
+          at-depth : ltb k (length path) ≡ true → factor_at s field path (suc k) ≡ factor_for s field (take k path) (get_or path k 0)
+          unfolding factor_at
+          at-depth t = rw t
 
-      no_kind : factors_of s (get_or path k 0) ≡ None → factor_for s field (take k path) (get_or path k 0) ≡ None
-      unfolding factor_for
-      no_kind n = rw (n, factor_for)
+          no_kind : factors_of s (get_or path k 0) ≡ None → factor_for s field (take k path) (get_or path k 0) ≡ None
+          unfolding factor_for
+          no_kind n = rw (n, factor_for)
 
-      by_kind : (c : ℕ) → factors_of s (get_or path k 0) ≡ Some c
-          → factor_for s field (take k path) (get_or path k 0) ≡ option_map (chain_end s) (factor_named s (node (take k path) c) (field s c))
-      unfolding factor_for
-      by_kind c n = rw (n, factor_for)
+          by_kind : (c : ℕ) → factors_of s (get_or path k 0) ≡ Some c
+              → factor_for s field (take k path) (get_or path k 0) ≡ option_map (chain_end s) (factor_named s (node (take k path) c) (field s c))
+          unfolding factor_for
+          by_kind c n = rw (n, factor_for)
 
-      below : k < length path → factor_at s field path (suc k) ≡ factor_for s field (take k path) (get_or path k 0) → FactorNamed s field path k f
-      unfolding factor_named node chain_end is_factor
-      below l is =
-          by-option (factors_of s (get_or path k 0))
-          (λ n. blank (is ∙ no_kind n))
-          (λ c n.
-          by-option (factor_named s (node (take k path) c) (field s c))
-          (λ m. blank (is ∙ by_kind c n ∙ ap (option_map (chain_end s)) m))
-          (λ z m.
-          let a = around-in s h₇ path i k l in
-          let sub = around-submodel s h₇ path i k l in
-          let r = some-map (node (take k path)) (element_in s c (field s c)) z m in
-          let inside : In z (tree_elements s) = rw r.2 (named-tree s (get_or path k 0) (take k path) a sub c (field s c) r.0 n r.1) in
-          let does = end-does (take k path) c z (factors-node s (get_or path k 0) (take k path) a sub c n) m in
-          let alive = not-true (is_gone s (chain_end s z)) (and_left (not (is_gone s (chain_end s z))) _ does) in
-          let three-is = eqb-true (class s (chain_end s z).place) 3 (and_right (not (is_gone s (chain_end s z))) _ does) in
-          let one : NamesOne s f (chain_end s z) =
-          names-one s two h₃ h₅ h₇ h₄ (chain_end s z) (survives s (chain_end s z) (chain-in s h₅ h₇ 5 z inside) alive) f (e ∙ ap (flat_field s) (is ∙ by_kind c n ∙ ap (option_map (chain_end s)) m)) in
-          record {
-            factors = c;
-            scales = n;
-            named = z;
-            is = m;
-            inside = inside;
-            names = one;
-            constant = one.of.kind ∙ three-is;
-          }))
+          below : k < length path → factor_at s field path (suc k) ≡ factor_for s field (take k path) (get_or path k 0) → FactorNamed s field path k f
+          unfolding factor_named node chain_end is_factor
+          below l is =
+              by-option (factors_of s (get_or path k 0))
+              (λ n. blank (is ∙ no_kind n))
+              (λ c n.
+              by-option (factor_named s (node (take k path) c) (field s c))
+              (λ m. blank (is ∙ by_kind c n ∙ ap (option_map (chain_end s)) m))
+              (λ z m.
+              let a = around-in s h₇ path i k l in
+              let sub = around-submodel s h₇ path i k l in
+              let r = some-map (node (take k path)) (element_in s c (field s c)) z m in
+              let inside : In z (tree_elements s) = rw r.2 (named-tree s (get_or path k 0) (take k path) a sub c (field s c) r.0 n r.1) in
+              let does = end-does (take k path) c z (factors-node s (get_or path k 0) (take k path) a sub c n) m in
+              let alive = not-true (is_gone s (chain_end s z)) (and_left (not (is_gone s (chain_end s z))) _ does) in
+              let three-is = eqb-true (class s (chain_end s z).place) 3 (and_right (not (is_gone s (chain_end s z))) _ does) in
+              let one : NamesOne s f (chain_end s z) =
+              names-one s two h₃ h₅ h₇ h₄ (chain_end s z) (survives s (chain_end s z) (chain-in s h₅ h₇ 5 z inside) alive) f (e ∙ ap (flat_field s) (is ∙ by_kind c n ∙ ap (option_map (chain_end s)) m)) in
+              record {
+                factors = c;
+                scales = n;
+                named = z;
+                is = m;
+                inside = inside;
+                names = one;
+                constant = one.of.kind ∙ three-is;
+              }))
 
-      pub factor-named : FactorNamed s field path k f
-      factor-named =
-          by_cases (ltb k (length path))
-          (λ t. below (ltb-true k (length path) t) (at-depth t))
-          (λ t. blank (too-deep t))
+          pub factor-named : FactorNamed s field path k f
+          factor-named =
+              by_cases (ltb k (length path))
+              (λ t. below (ltb-true k (length path) t) (at-depth t))
+              (λ t. blank (too-deep t))
 
-  pub time-half : (y : Node) → has_factor_fault s y ≡ false → is_factor_fault s y (time_field s y.place) ≡ false
-  unfolding has_factor_fault
-  time-half y h = or-none-left (is_factor_fault s y (time_field s y.place)) _ h
+      pub time-half : (y : Node) → has_factor_fault s y ≡ false → is_factor_fault s y (time_field s y.place) ≡ false
+      unfolding has_factor_fault
+      time-half y h = or-none-left (is_factor_fault s y (time_field s y.place)) _ h
 
-  pub extent-half : (y : Node) → has_factor_fault s y ≡ false → is_factor_fault s y (extent_field s y.place) ≡ false
-  unfolding has_factor_fault
-  extent-half y h = or-none-right (is_factor_fault s y (time_field s y.place)) _ h
+      pub extent-half : (y : Node) → has_factor_fault s y ≡ false → is_factor_fault s y (extent_field s y.place) ≡ false
+      unfolding has_factor_fault
+      extent-half y h = or-none-right (is_factor_fault s y (time_field s y.place)) _ h
 
-  module _ (i : ℕ) (l : i < length (rated s)) (k : ℕ) (m : k < 4) where
-    path-in : In (rated_at s i).path (instances s)
-    path-in = (in_tree s (rated_at s i) (survivor s (rated_at s i) (rated-tree s (rated_at s i) (get_or-in (rated s) i (node [] 0) l))).0).0
+      module _ (i : ℕ) (l : i < length (rated s)) (k : ℕ) (m : k < 4) where
+        path-in : In (rated_at s i).path (instances s)
+        path-in = (in_tree s (rated_at s i) (survivor s (rated_at s i) (rated-tree s (rated_at s i) (get_or-in (rated s) i (node [] 0) l))).0).0
 
-    pub time-named : is_blank (entry_field s.width (companion s) i (suc k)) ≡ false → FactorNamed s time_field (rated_at s i).path k (entry_field s.width (companion s) i (suc k))
-    time-named b = factor-named time_field time-half (rated_at s i).path k _ path-in (time-at i l k m) b
+        pub time-named : is_blank (entry_field s.width (companion s) i (suc k)) ≡ false → FactorNamed s time_field (rated_at s i).path k (entry_field s.width (companion s) i (suc k))
+        time-named b = factor-named time_field time-half (rated_at s i).path k _ path-in (time-at i l k m) b
 
-    pub extent-named : is_blank (entry_field s.width (companion s) i (4 + suc k)) ≡ false → FactorNamed s extent_field (rated_at s i).path k (entry_field s.width (companion s) i (4 + suc k))
-    extent-named b = factor-named extent_field extent-half (rated_at s i).path k _ path-in (extent-at i l k m) b
+        pub extent-named : is_blank (entry_field s.width (companion s) i (4 + suc k)) ≡ false → FactorNamed s extent_field (rated_at s i).path k (entry_field s.width (companion s) i (4 + suc k))
+        extent-named b = factor-named extent_field extent-half (rated_at s i).path k _ path-in (extent-at i l k m) b
