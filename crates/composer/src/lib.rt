@@ -26,7 +26,7 @@ use recipe::Source;
 use shadow::cell;
 
 // 01's name width.
-const NAME_WIDTH: usize = 12;
+pub const NAME_WIDTH: usize = 12;
 
 // Flattening's answer: 0, or the number and place of the refusal; the records and bytes written.
 #[repr(C)]

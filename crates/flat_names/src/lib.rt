@@ -24,7 +24,7 @@ use shadow::{cell, number_at};
 // The most rows, one for each instance, and their bytes, for names of 64 bytes.
 pub const PREFIX_ROWS: usize = 64;
 
-const PREFIX_BYTES: usize = 16896;
+pub const PREFIX_BYTES: usize = 16896;
 
 // The rooms of a table of prefixes: the bytes of its rows, and their lengths.
 #[derive(Drop)]

@@ -73,7 +73,7 @@ module _ (x : RecordIndex) (once : fault₄ (recipe_of x) ≡ None) {q : Sought}
   abbrev among : List ℕ
   among = keep (is_of (R x) asked q.definition) (places (R x))
 
-  -- a record'(R x) name is the one looked for just where its first field is
+  -- a record's name is the one looked for just where its first field is
   same-named : (p : ℕ) → In p (places (R x)) → same (first_field (R x) p) f ≡ same (name (R x) p) (text f)
   unfolding name field_at
   same-named p i =

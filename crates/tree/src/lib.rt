@@ -16,7 +16,7 @@ use recipe::Source;
 use shadow::{SubmodelsOf, cell, set_cell};
 
 // The columns of an instance's row.
-const DEFINITION: usize = 0;
+pub const DEFINITION: usize = 0;
 
 pub const DEPTH: usize = 1;
 
@@ -26,7 +26,7 @@ pub const SUBMODEL_RECORD: usize = 3;
 
 pub const AROUND: usize = 4;
 
-const NEXT_SAME: usize = 5;
+pub const NEXT_SAME: usize = 5;
 
 // Row 7's limits.
 const MOST_DEPTH: usize = 4;
