@@ -5,7 +5,7 @@
 ghost use Rattle.std.specs.Prelude.{◌≡◌, true, not, eqb, ◌*◌, ◌+◌, ◌≤◌, ◌<◌, length, get_or, replicate};
 ghost use Rattle.std.specs.List.{list_any};
 ghost use Rattle.names.specs.Lists.{In};
-ghost use Rattle.recipe.specs.Records.{places, is_pointer, next, owned_kind, replaced_by_kind};
+ghost use Rattle.recipe.specs.Records.{places, is_pointer, next, owned_kind};
 ghost use Rattle.targets.specs.Trees.{recipe_of};
 ghost use Rattle.marks.specs.Faults.{conflicts_with_earlier, fault₉};
 ghost use Rattle.marks.specs.Cells.{Stamped, AllStamped, meets, stamped};

@@ -91,7 +91,7 @@ module _ (lt : ℕ → ℕ → Bool) where
       (λ e. rw e (IsPermutation-trans _ _ _ (IsPermutation-middle (a ∷ xs) b ys) (IsPermutation-cons b _ _ (between-moved a xs f h ys))))
       (λ e. rw e (IsPermutation-cons a _ _ (h (b ∷ ys))))
 
-  pub merged-moved : (xs ys : List ℕ) → IsPermutation (xs ++ ys) (merged lt xs ys)
+  merged-moved : (xs ys : List ℕ) → IsPermutation (xs ++ ys) (merged lt xs ys)
   unfolding merged
   merged-moved [] ys = IsPermutation-refl ys
   merged-moved (a ∷ xs) ys = between-moved a xs (merged lt xs) (merged-moved xs) ys
@@ -131,11 +131,11 @@ module _ (name : ℕ → List ℕ) where
   listed : (xs : List ℕ) → IsSortedBy (stands name) xs → Sorted name xs
   listed xs s = far-sorted name xs (λ i j u v. sorted_far (stands name) (stands-order name) xs s i j 0 u v)
 
-  pub merged-in-order : (xs ys : List ℕ) → IsSortedBy (stands name) xs → IsSortedBy (stands name) ys → IsSortedBy (stands name) (merged (stands name) xs ys)
+  merged-in-order : (xs ys : List ℕ) → IsSortedBy (stands name) xs → IsSortedBy (stands name) ys → IsSortedBy (stands name) (merged (stands name) xs ys)
   merged-in-order xs ys r s k d l m = rw add-one (sorted-near name (merged (stands name) xs ys) (merged-sorted xs ys (listed xs r) (listed ys s)) k d m)
 
   -- two runs that are in order as they stand, one after the other
-  pub joined-in-order : (xs ys : List ℕ) → IsSortedBy (stands name) xs → IsSortedBy (stands name) ys
+  joined-in-order : (xs ys : List ℕ) → IsSortedBy (stands name) xs → IsSortedBy (stands name) ys
       → stands name (get_or (xs ++ ys) (length xs) 0) (get_or (xs ++ ys) (length xs - 1) 0) ≡ false → IsSortedBy (stands name) (xs ++ ys)
   joined-in-order xs ys r s e k d l m =
       let long = length-append xs ys in
@@ -203,17 +203,32 @@ module _ (h : ℕ) (xs a b : List ℕ) (l : h ≤ length xs) (p : IsPermutation 
   few : length (drop h xs) ≤ length (a ++ drop h xs) - h
   few = rw (length-append a (drop h xs)) (omega (arith, first-long))
 
-  pub halves_are : put_mid h (length (a ++ drop h xs) - h) (a ++ drop h xs) b ≡ a ++ b
+  halves_are : put_mid h (length (a ++ drop h xs) - h) (a ++ drop h xs) b ≡ a ++ b
   halves_are = rw (rest, take_at a (drop h xs) h first-long, drop_of_length-le (drop h xs) few, append-nil b)
 
-  pub halves-moved : IsPermutation xs (a ++ b)
+  halves-moved : IsPermutation xs (a ++ b)
   halves-moved =
       let second : IsPermutation (drop h xs) b = subst (λ (z : List ℕ). IsPermutation z b) (ap (take (length (a ++ drop h xs) - h)) rest ∙ take_all _ _ few) q in
       subst (λ (z : List ℕ). IsPermutation z (a ++ b)) (take-append-drop h xs) (IsPermutation-append (take h xs) a (drop h xs) b p second)
 
-  pub halves-merged : (lt : ℕ → ℕ → Bool) {out : List ℕ} → (let mid = put_mid h (length (a ++ drop h xs) - h) (a ++ drop h xs) b in out ≡ merged lt (take h mid) (drop h mid)) → out ≡ merged lt a b
-  halves-merged lt e = e ∙ (ap (λ (z : List ℕ). merged lt (take h z) (drop h z)) halves_are ∙ rw (take_at a b h first-long, drop_at a b h first-long))
+  -- as they stand, one behind the other
+  pub joined-moved : IsPermutation xs (put_mid h (length (a ++ drop h xs) - h) (a ++ drop h xs) b)
+  joined-moved = rw halves_are halves-moved
 
-  pub halves-met : (name : ℕ → List ℕ) → (let mid = put_mid h (length (a ++ drop h xs) - h) (a ++ drop h xs) b in stands name (get_or mid h 0) (get_or mid (h - 1) 0) ≡ false)
-      → stands name (get_or (a ++ b) (length a) 0) (get_or (a ++ b) (length a - 1) 0) ≡ false
-  halves-met name e = rw first-long (rw halves_are at e)
+  pub joined-sorted : (name : ℕ → List ℕ) → IsSortedBy (stands name) a → IsSortedBy (stands name) b
+      → (let mid = put_mid h (length (a ++ drop h xs) - h) (a ++ drop h xs) b in (stands name (get_or mid h 0) (get_or mid (h - 1) 0) ≡ false) → IsSortedBy (stands name) mid)
+  joined-sorted name r s e =
+      let met : stands name (get_or (a ++ b) (length a) 0) (get_or (a ++ b) (length a - 1) 0) ≡ false = rw first-long (rw halves_are at e) in
+      subst (λ (z : List ℕ). IsSortedBy (stands name) z) (sym halves_are) (joined-in-order name a b r s met)
+
+  -- merged, out being what is written
+  module _ (lt : ℕ → ℕ → Bool) {out : List ℕ} (e : let mid = put_mid h (length (a ++ drop h xs) - h) (a ++ drop h xs) b in out ≡ merged lt (take h mid) (drop h mid)) where
+    halves-merged : out ≡ merged lt a b
+    halves-merged = e ∙ (ap (λ (z : List ℕ). merged lt (take h z) (drop h z)) halves_are ∙ rw (take_at a b h first-long, drop_at a b h first-long))
+
+    pub merged-halves-moved : IsPermutation xs out
+    merged-halves-moved = rw halves-merged (IsPermutation-trans _ _ _ halves-moved (merged-moved lt a b))
+
+  pub merged-halves-sorted : (name : ℕ → List ℕ) {out : List ℕ} → IsSortedBy (stands name) a → IsSortedBy (stands name) b
+      → (let mid = put_mid h (length (a ++ drop h xs) - h) (a ++ drop h xs) b in out ≡ merged (stands name) (take h mid) (drop h mid)) → IsSortedBy (stands name) out
+  merged-halves-sorted name r s e = subst (λ (z : List ℕ). IsSortedBy (stands name) z) (sym (halves-merged (stands name) e)) (merged-in-order name a b r s)

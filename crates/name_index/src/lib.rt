@@ -52,7 +52,7 @@ const POSITIONS: u64 = 65536;
 // The most positions of one key that are sorted by merging.
 const MOST_MERGED: usize = 1536;
 
-// The most that the library sorts by insertion.
+// The most positions of one key that the library sorts, which takes so few by insertion.
 const MOST_INSERTED: usize = 16;
 
 // The state after eight bytes more.

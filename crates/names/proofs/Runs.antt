@@ -1,4 +1,4 @@
--- Runs of bytes from the start of a field, eight at a time and one by one: how long they are, and what a run of equal bytes says of two names.
+-- Bytes of a field, eight at a time and one by one: how many pass a test from the start, whether all do, and what a run of equal bytes says of two names.
 -- Assumes nothing.
 use mathlib.Core.Path.{◌≡◌, refl, sym, ap, ◌∙◌}
 use mathlib.Core.Bool.{Bool, true, false, ◌&&◌}
@@ -11,7 +11,8 @@ use lib.Dec.{eqb, ltb, leb}
 use borrow.Author.Tests.{eq-eqb, ne_eqb, eqb-true, eqb-false, leb-true, leb-false}
 use Rattle.std.specs.List.{fold, list_all, prefix_len}
 use Rattle.std.specs.Simd.{first_chunks}
-use Rattle.std.proofs.lemmas.List.Folds.{length-prefix_len}
+use Rattle.std.proofs.lemmas.List.{take-append-drop}
+use Rattle.std.proofs.lemmas.List.Folds.{length-prefix_len, list_all-append}
 use Rattle.std.proofs.lemmas.List.Sums.{prefix_len_is}
 use Rattle.names.specs.Lists.{keep_while, every, same}
 use Rattle.names.specs.Order.{before}
@@ -72,10 +73,14 @@ module _ {A : Type 0} (t : A → Bool) where
 
 -- ---- a test of all, in steps of eight and of the rest
 module _ {A : Type 0} (t : A → Bool) where
+  listed-every : (xs : List A) → list_all t xs ≡ every t xs
+  listed-every [] = refl
+  listed-every (x ∷ xs) = by_cases (t x) (λ e. rw (e, list_all, every) (listed-every xs)) (λ e. rw (e, list_all, every))
+
   every-parts : (n : ℕ) (xs : List A) → every t xs ≡ every t (take n xs) && every t (drop n xs)
-  every-parts zero xs = refl
-  every-parts (suc n) [] = refl
-  every-parts (suc n) (x ∷ xs) = by_cases (t x) (λ e. rw (e, every) (every-parts n xs)) (λ e. rw (e, every))
+  every-parts n xs =
+      let parts = ap (list_all t) (sym (take-append-drop n xs)) ∙ list_all-append t (take n xs) (drop n xs) in
+      sym (listed-every xs) ∙ (parts ∙ rw (listed-every (take n xs), listed-every (drop n xs)))
 
   eights-every : (m : ℕ) (xs : List A) → list_all (every t) (first_chunks 8 m xs) && every t (drop (m * 8) xs) ≡ every t xs
   eights-every zero xs = refl
@@ -84,10 +89,6 @@ module _ {A : Type 0} (t : A → Bool) where
       let rest = eights-every m (drop 8 xs) in
       rw (every-parts 8 xs, z, ← drop-drop (m * 8) 8 xs)
       (by_cases (every t (take 8 xs)) (λ e. rw (e, list_all) rest) (λ e. rw (e, list_all)))
-
-  listed-every : (xs : List A) → list_all t xs ≡ every t xs
-  listed-every [] = refl
-  listed-every (x ∷ xs) = by_cases (t x) (λ e. rw (e, list_all, every) (listed-every xs)) (λ e. rw (e, list_all, every))
 
   -- as `all` gives them, over the chunks of a slice and over what is behind
   pub every-eights : (xs : List A) {zs : List (List A)} {ys : List A} → zs ≡ first_chunks 8 (length xs / 8) xs → ys ≡ drop (length xs / 8 * 8) xs

@@ -105,7 +105,7 @@ pub fn compare(a: &[u8], b: &[u8]) -> Ordering
     a.cmp(b)
 }
 
-// Whether eight bytes are zeros, in the same way.
+// Whether eight bytes are zeros, likewise without a branch.
 fn are_zeros(eight: &[u8; 8]) -> bool
     ensures { result ≡ every (eqb 0) eight.now }
 {
@@ -120,7 +120,7 @@ pub fn is_blank(f: &[u8]) -> bool
     eights.iter().all(|e| are_zeros(e)) && rest.iter().all(|&b| b == 0)
 }
 
-// What a field reads as. Most fields are blank, which is seen first.
+// What a field reads as: a blank is seen first, by eights.
 pub fn read_field(f: &[u8]) -> Field
     ensures { result ≡ field_of f.now }
 {
